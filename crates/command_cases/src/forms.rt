@@ -4,13 +4,14 @@ use case_text::Shape::{Nothing, Pieces, Words, WordsAndPieces};
 use case_text::Times::{Often, Once, OnceEach};
 
 /// The parts that a case of a command may have.
-pub const FORMS: [Form; 18] = [
+pub const FORMS: [Form; 19] = [
     Form("with", Words, OnceEach),
     Form("words", Words, Once),
     Form("file", WordsAndPieces, OnceEach),
     Form("input", WordsAndPieces, Once),
     Form("table", Words, Once),
     Form("row", Words, Often),
+    Form("far", WordsAndPieces, Often),
     Form("reads", Words, Once),
     Form("takes", Words, Once),
     Form("writes", Words, Once),

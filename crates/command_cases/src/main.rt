@@ -3,6 +3,7 @@
 #![tactic(auto)]
 
 mod fails;
+mod far;
 mod forms;
 mod judge;
 mod run;

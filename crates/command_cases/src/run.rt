@@ -1,8 +1,11 @@
 // A run of a case, and what differs of what it is wanted to leave.
+use crate::far::fars_of;
 use crate::setting::{Twist, failing, files_of, own_words, streams_of};
 use case_text::{Fault, Part, differing_line, differing_number, part_of, tables_of};
-use mix_call::{mixq, mixq_serve};
+use far_keep::MemFars;
+use mix_call::{mixq_over, mixq_serve_over};
 use mix_io::{MemFiles, MemInput, MemSink, Streams};
+use mix_reach::Stores;
 use std::alloc::Global;
 use table_keep::{MemTables, Tables};
 
@@ -28,14 +31,14 @@ fn call(
     alloc: Global,
     words: &[String],
     files: &mut MemFiles,
-    tables: MemTables,
+    stores: Stores<MemTables, MemFars>,
     streams: &mut Streams<MemInput, MemSink>,
-) -> (u8, MemTables) {
+) -> (u8, Stores<MemTables, MemFars>) {
     match words {
         [word, ..] if word.as_str() == "serve" => {
-            mixq_serve(alloc, words, files, tables, streams)
+            mixq_serve_over(alloc, words, files, stores, streams)
         }
-        _ => mixq(alloc, words, files, tables, streams),
+        _ => mixq_over(alloc, words, files, stores, streams),
     }
 }
 
@@ -44,9 +47,16 @@ fn run(alloc: Global, parts: &[Part<'_>], twist: Twist<'_>) -> Result<Outcome, F
     let words = own_words(alloc, parts)?;
     let mut files = files_of(alloc, parts, twist)?;
     let tables = tables_of(alloc, parts, failing(alloc, parts, "pages", twist)?)?;
+    let fars = fars_of(alloc, parts)?;
     let mut streams = streams_of(alloc, parts, twist)?;
-    let (status, tables) = call(alloc, &words, &mut files, tables, &mut streams);
-    let pages = tables.pages();
+    let (status, stores) = call(
+        alloc,
+        &words,
+        &mut files,
+        Stores { tables, fars },
+        &mut streams,
+    );
+    let pages = stores.tables.pages();
     let written = streams.out.bytes().to_vec(alloc)?;
     Ok(Outcome {
         status,

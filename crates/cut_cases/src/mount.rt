@@ -49,7 +49,7 @@ fn table(alloc: Global, spec: &SourceSpec) -> Result<Mount, Fault> {
     }
 }
 
-// What is mounted for a source: nothing, where the case has no file of its path.
+// What is mounted for a source: nothing, where the case has no file of its path, nor for a source of another machine.
 fn mount(alloc: Global, parts: &[Part<'_>], spec: &SourceSpec) -> Result<Mount, Fault> {
     match &spec.kind {
         SourceKind::Table { .. } => table(alloc, spec),
@@ -64,6 +64,7 @@ fn mount(alloc: Global, parts: &[Part<'_>], spec: &SourceSpec) -> Result<Mount, 
             Some(text) => csv(alloc, text, spec, columns.as_slice()),
             None => Ok(Mount::Absent),
         },
+        SourceKind::Remote { .. } => Ok(Mount::Absent),
     }
 }
 

@@ -1,6 +1,7 @@
 // Catalogs: how many sources a text has, and as what they are kept, worked out by hand.
 use crate::labels::{is_label, label};
 use crate::made::{Numbered, numbered};
+use crate::remotes::is_homes;
 use crate::tables::is_people;
 use mix_catalog::{Catalog, CatalogFault, SourceKind, SourceSpec, read_catalog};
 use std::alloc::Global;
@@ -39,6 +40,12 @@ const COUNTS: &[(&[u8], u32)] = &[
         1,
     ),
     (b"source p table f t key a columns a,A chunk 1", 1),
+    (b"source h remote replies requests 0", 1),
+    (
+        b"\tsource  h remote \"my replies\"  \"my requests\"\t 000000007 \r\nsource k remote f f 999999999",
+        2,
+    ),
+    (b"source remote remote \"\" remote 1", 1),
 ];
 
 #[test]
@@ -112,6 +119,7 @@ enum Kept {
     Brackets,
     Csv,
     Table,
+    Remote,
 }
 
 // Whether a catalog is kept so.
@@ -122,6 +130,7 @@ fn is_kept(catalog: &Catalog, kept: Kept) -> bool {
             catalog.len() == 1 && is_csv(catalog.spec(0), "f", 10, ["id", "na,me ", ""])
         }
         Kept::Table => catalog.len() == 1 && is_people(catalog.spec(0)),
+        Kept::Remote => catalog.len() == 1 && is_homes(catalog.spec(0)),
     }
 }
 
@@ -145,6 +154,7 @@ const KEPT: &[(&[u8], Kept)] = &[
         b"source p table \"my people.db\" people key id columns name!,zip,_9! chunk 2",
         Kept::Table,
     ),
+    (b"source h remote \"my replies\" requests 012", Kept::Remote),
 ];
 
 #[test]

@@ -14,6 +14,8 @@ mod nodes;
 #[cfg(test)]
 mod paths;
 #[cfg(test)]
+mod remotes;
+#[cfg(test)]
 mod rules;
 #[cfg(test)]
 mod tables;

@@ -6,7 +6,7 @@ use crate::fault::{RemoteRefused, WireFault};
 use crate::filling::fill_peer;
 use crate::peer::Peer;
 use crate::roots::ask_peers;
-use lxp_core::{HoleId, OpenTree, SourceFault, Sources};
+use lxp_core::{HoleId, OpenTree, SourceFault, Sources, Weighed};
 use lxp_wire::Link;
 use std::alloc::Global;
 
@@ -146,4 +146,15 @@ impl<L: Link> Sources for Remote<L> {
     ghost keeps = { λ a b x. x.1.keeps };
 
     ghost root_known = { λ a s h. root_is_known (remoting (L.view a.link) a.peers.items a.fills) s h };
+}
+
+impl<L: Link> Weighed for Remote<L> {
+    ghost use Rattle.std.specs.Prelude.{◌≡◌, ◌<◌, true, false, MatchOption, refl};
+    ghost use Rattle.lxp_remote.specs.Remotes.{remoting, view_of};
+
+    fn weight(&self, s: u32, hole: HoleId) -> Option<u128> {
+        self.peers[s as usize].weight(hole)
+    }
+
+    ghost all_small = { λ a s h. refl };
 }

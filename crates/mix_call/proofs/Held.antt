@@ -7,7 +7,7 @@ use Rattle.mix_talk.specs.Heard.{Heard, steps_in}
 use Rattle.mix_talk.specs.declared.fault.TalkFault.{TalkFault}
 use Rattle.mix_talk.specs.declared.fault.TalkFault.TheVariants.{InputFailed, SinkFailed, OutOfMemory}
 use Rattle.mix_io.proofs.Taken.{took_none}
-use Rattle.table_keep.specs.Views.{TablesView}
+use Rattle.mix_reach.specs.Stores.{StoresView}
 use Rattle.plan_core.specs.Events.{VisitedAreMatches}
 use Rattle.plan_core.specs.PlanMade.{plan_value}
 use Rattle.mix_top.specs.Ends.{Ends}
@@ -18,7 +18,7 @@ use Rattle.mix_top.specs.declared.refusal.Stop.TheVariants as stop
 use Rattle.mix_top.proofs.RunCourse.{view_question}
 use Rattle.mix_top.proofs.StopLaws.{refusal_ends}
 use Rattle.mix_call.specs.Ends.{EndsSo, TalkEnds, TalkedAlong, talk_status}
-use Rattle.mix_call.specs.Over.{IsReady, IsReadyStop, TalkOver}
+use Rattle.mix_call.specs.Over.{IsReady, IsReadyStop, TalkOver, placed}
 use Rattle.mix_call.specs.Talks.{IsTalkRefused, Talks}
 use Rattle.mix_call.specs.declared.talking.Ready.{Ready}
 
@@ -39,26 +39,26 @@ ends_weaker C D input input' before after w (Err SinkFailed) h = (h.0, (h.1.0, h
 ends_weaker C D input input' before after w (Err OutOfMemory) (inl h) = inl h
 ends_weaker C D input input' before after w (Err OutOfMemory) (inr h) = inr (h.0, h.1, w h.0 h.1 h.2, h.3)
 
-module _ (old new : FilesView) (tables tables' : TablesView) (view catalog : List ℕ) (visits : VisitedAreMatches) (input input' : InputView) (before after : SinkView) where
+module _ (old new : FilesView) (stores stores' : StoresView) (view catalog : List ℕ) (visits : VisitedAreMatches) (input input' : InputView) (before after : SinkView) where
   -- the talk of a run ends with this status
   abbrev Ended : ℕ → Type 0
-  Ended status = TalkEnds (outside old tables) (outside new tables') view catalog input input' before after status
+  Ended status = TalkEnds (outside old stores) (outside new stores') view catalog input input' before after status
 
   -- where a talk over what was made ready was held, the talk ends
   pub held : (ready : Ready) → IsReady old view catalog ready → (end : Result Bool TalkFault)
-      → (fills : ℕ) × TalkedAlong (TalkOver fills tables tables' ready.docs.items ready.basis) input input' before after end → (status : ℕ) → status ≡ talk_status end → Ended status
+      → (fills : ℕ) × TalkedAlong (TalkOver fills stores stores' (placed ready) ready.basis) input input' before after end → (status : ℕ) → status ≡ talk_status end → Ended status
   held ready is end h status same =
-      let Over : Course = TalkOver h.0 tables tables' ready.docs.items ready.basis in
-      let All : Course = Talks (outside old tables) (outside new tables') view catalog in
+      let Over : Course = TalkOver h.0 stores stores' (placed ready) ready.basis in
+      let All : Course = Talks (outside old stores) (outside new stores') view catalog in
       let asked = heard_by h.1.bytes end in
       inr (end, same, record { bytes = h.1.bytes; took = h.1.took; ends = ends_weaker (Over asked) (All asked) input input' before after (talks asked h.0) end h.1.ends })
     where
-      talks : (asked : List Heard) (fills status : ℕ) (lines : List ℕ) → TalkOver fills tables tables' ready.docs.items ready.basis asked before after status lines
-          → Talks (outside old tables) (outside new tables') view catalog asked before after status lines
+      talks : (asked : List Heard) (fills status : ℕ) (lines : List ℕ) → TalkOver fills stores stores' (placed ready) ready.basis asked before after status lines
+          → Talks (outside old stores) (outside new stores') view catalog asked before after status lines
       talks asked fills status lines h = (
-        question_of tables ready.docs.items ready.basis.catalog (plan_value ready.basis.plan).ops (steps_in asked) h.0,
+        question_of stores (placed ready) ready.basis.catalog (plan_value ready.basis.plan).ops (steps_in asked) h.0,
         record {
-          view_is = view_question old tables view catalog ready.basis.catalog (plan_value ready.basis.plan) (steps_in asked) ready.docs.items visits is.catalog_is is.plan_is is.mounted h.0 h.1;
+          view_is = view_question old stores view catalog ready.basis.catalog (plan_value ready.basis.plan) (steps_in asked) (placed ready) visits is.catalog_is is.plan_is is.placed_are h.0 h.1;
           steps_are = refl;
         },
         fills,
@@ -66,10 +66,10 @@ module _ (old new : FilesView) (tables tables' : TablesView) (view catalog : Lis
       )
 
 -- where a talk was refused, and the line of its refusal was written or cut short, the talk ends
-pub refused : (old new : FilesView) (tables : TablesView) (view catalog : List ℕ) (input : InputView) (before after : SinkView) (r : Refusal) (status : ℕ) → IsReadyStop old new view catalog (stop.Refused r)
-    → Ends (λ s lines. (s ≡ r.status) × (lines ≡ string_bytes r.line)) before after status → TalkEnds (outside old tables) (outside new tables) view catalog input input before after status
-refused old new tables view catalog input before after r status cause ends = inl (refl, refusal_ends (IsTalkRefused old new view catalog) before after r status cause ends)
+pub refused : (old new : FilesView) (stores : StoresView) (view catalog : List ℕ) (input : InputView) (before after : SinkView) (r : Refusal) (status : ℕ) → IsReadyStop old new view catalog (stop.Refused r)
+    → Ends (λ s lines. (s ≡ r.status) × (lines ≡ string_bytes r.line)) before after status → TalkEnds (outside old stores) (outside new stores) view catalog input input before after status
+refused old new stores view catalog input before after r status cause ends = inl (refl, refusal_ends (IsTalkRefused old new view catalog) before after r status cause ends)
 
 -- where a talk was stopped before it began, since memory ran out, the talk ends
-pub unbegun : (old new : FilesView) (tables : TablesView) (view catalog : List ℕ) (input : InputView) (before : SinkView) → TalkEnds (outside old tables) (outside new tables) view catalog input input before before 6
-unbegun old new tables view catalog input before = inl (refl, inr (inr (record { six = refl; prefix = inl refl })))
+pub unbegun : (old new : FilesView) (stores : StoresView) (view catalog : List ℕ) (input : InputView) (before : SinkView) → TalkEnds (outside old stores) (outside new stores) view catalog input input before before 6
+unbegun old new stores view catalog input before = inl (refl, inr (inr (record { six = refl; prefix = inl refl })))

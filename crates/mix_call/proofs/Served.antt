@@ -1,14 +1,15 @@
 -- How the files of serving are accepted or refused, one after another, and how serving ends.
-use Rattle.std.proofs.Common.{◌≡◌, inl, inr, ℕ, List, Result, refl, subst, string_bytes}
+use Rattle.std.proofs.Common.{◌≡◌, ◌∙◌, ap, inl, inr, ℕ, List, Result, refl, subst, string_bytes}
 use Rattle.mix_io.specs.Input.{InputView}
 use Rattle.mix_io.specs.Views.{FilesView, KeepsFiles, ReadsOnly, SinkView}
 use Rattle.mix_catalog.specs.declared.source.SourceSpec.{SourceSpec}
 use Rattle.mix_mount.specs.declared.mount.Mount.{Mount}
-use Rattle.mix_mount.specs.Mounts.{Mounting, view_of}
+use Rattle.mix_reach.specs.Reach.{CameFrom, Reaching, view_of}
+use Rattle.mix_reach.specs.Stores.{StoresView, stores_of}
+use Rattle.mix_reach.specs.declared.site.Site.{Site}
 use Rattle.mix_serve.specs.Ends.{ServingEnds}
 use Rattle.mix_serve.specs.declared.fault.ServeFault.{ServeFault}
 use Rattle.mix_serve.specs.declared.serving.Served.{Served}
-use Rattle.table_keep.specs.Views.{TablesView}
 use Rattle.mix_top.specs.Causes.{IsNoCatalog}
 use Rattle.mix_top.specs.Course.{IsCatalogFile, every}
 use Rattle.mix_top.specs.FilesRead.{ChosenMayRead, ReadsAmong}
@@ -19,7 +20,8 @@ use Rattle.mix_top.specs.declared.refusal.Stop.TheVariants.{Refused, SinkFailed,
 use Rattle.mix_top.proofs.FilesRead.{reads_one, reads_twice, reads_wider, source_may_before}
 use Rattle.mix_top.proofs.MountLaws.{IsSteady}
 use Rattle.mix_top.proofs.Readiness.{source_refused_before}
-use Rattle.mix_call.specs.Served.{AreAnswered, IsServingStop, ServingMayRead, mounting}
+use Rattle.mix_top.specs.Running.{Placed, placed_of}
+use Rattle.mix_call.specs.Served.{AreAnswered, IsServingStop, ServingMayRead, reaching}
 
 -- where the catalog was not accepted, serving stops
 pub catalog_stops : (old new : FilesView) (catalog : List ℕ) (stop : Stop) → IsLoadStop IsNoCatalog old new catalog stop → IsServingStop old new catalog stop
@@ -46,14 +48,15 @@ sources_read old mid new catalog sources cat keeps only reads =
     reads_twice May old mid new (catalog_read old mid catalog only)
     (reads_wider (ChosenMayRead mid every sources) May mid new (λ path h. inr (sources, cat, source_may_before old mid every sources keeps path h)) reads)
 
--- where mounted sources were served, their documents were over the tables before and after
-pub served_over : (old new : Mounting) (docs : List Mount) (before after : TablesView) (input input' : InputView) (sink sink' : SinkView) (end : Result Served ServeFault) → old.docs ≡ docs → old.tables ≡ before
-    → old.fills ≡ 0 → new.docs ≡ old.docs → new.tables ≡ after → ServingEnds (view_of old) (view_of new) input input' sink sink' end → AreAnswered docs before after input input' sink sink' end
-served_over old new docs before after input input' sink sink' end docs_are tables_are none docs_stay then ends =
-    let Over : Mounting → Mounting → Type 0 = λ a b. ServingEnds (view_of a) (view_of b) input input' sink sink' end in
-    let one : Over old (mounting old.docs new.tables new.fills) = subst (λ (ds : List Mount). Over old (mounting ds new.tables new.fills)) docs_stay ends in
-    let two : Over old (mounting old.docs after new.fills) = subst (λ (v : TablesView). Over old (mounting old.docs v new.fills)) then one in
-    let three : Over (mounting docs old.tables old.fills) (mounting docs after new.fills) =
-    subst (λ (ds : List Mount). Over (mounting ds old.tables old.fills) (mounting ds after new.fills)) docs_are two in
-    let four : Over (mounting docs before old.fills) (mounting docs after new.fills) = subst (λ (v : TablesView). Over (mounting docs v old.fills) (mounting docs after new.fills)) tables_are three in
-    (new.fills, subst (λ (n : ℕ). Over (mounting docs before n) (mounting docs after new.fills)) none four)
+-- where sources were served, they were over the stores before and after
+pub served_over : (old new : Reaching) (place : Placed) (before after : StoresView) (input input' : InputView) (sink sink' : SinkView) (end : Result Served ServeFault) → placed_of old ≡ place → stores_of old ≡ before
+    → old.fills ≡ 0 → old.mounted.fills ≡ 0 → CameFrom old new → stores_of new ≡ after → ServingEnds (view_of old) (view_of new) input input' sink sink' end → AreAnswered place before after input input' sink sink' end
+served_over old new place before after input input' sink sink' end place_is stores_are none own came then ends =
+    let Over : Reaching → Reaching → Type 0 = λ a b. ServingEnds (view_of a) (view_of b) input input' sink sink' end in
+    let place_stays : placed_of new ≡ place = ap (λ (ds : List Mount). record { docs = ds; sites = new.sites }) came.mounted.docs
+    ∙ ap (λ (ss : List Site). record { docs = old.mounted.docs; sites = ss }) came.sites ∙ place_is in
+    let b : new ≡ reaching place after new.mounted.fills new.fills = ap (λ (p : Placed). reaching p (stores_of new) new.mounted.fills new.fills) place_stays
+    ∙ ap (λ (v : StoresView). reaching place v new.mounted.fills new.fills) then in
+    let a : old ≡ reaching place before 0 0 = ap (λ (p : Placed). reaching p (stores_of old) old.mounted.fills old.fills) place_is
+    ∙ ap (λ (v : StoresView). reaching place v old.mounted.fills old.fills) stores_are ∙ ap (λ (n : ℕ). reaching place before n old.fills) own ∙ ap (λ (n : ℕ). reaching place before 0 n) none in
+    (new.mounted.fills, new.fills, subst (λ (x : Reaching). Over x (reaching place after new.mounted.fills new.fills)) a (subst (λ (x : Reaching). Over old x) b ends))

@@ -1,11 +1,12 @@
--- How the lines of a talk over mounted documents end.
+-- How the lines of a talk over sources end.
 use Rattle.std.proofs.Common.{◌≡◌, ◌∙◌, ◌+◌, ◌≤◌, IsTrue, inl, inr, ℕ, Bool, true, List, [], ◌∷◌, ◌++◌, Result, Ok, Err, refl, ap, sym, subst, arith, length, take, take_all, append_assoc}
 use Rattle.mix_base.proofs.Lists.{append_nil, take_append}
 use Rattle.mix_io.specs.Contents.{Appends}
 use Rattle.mix_io.specs.Input.{InputView}
 use Rattle.mix_io.specs.Views.{FilesView, SinkView}
 use Rattle.mix_tree.specs.Forest.{LabelledTree}
-use Rattle.mix_mount.specs.Mounts.{CameFrom, Mounting, view_of}
+use Rattle.mix_reach.specs.Reach.{CameFrom, Reaching, view_of}
+use Rattle.mix_reach.specs.Stores.{stores_of}
 use Rattle.plan_core.specs.PlanMade.{plan_value}
 use Rattle.xmas_read.specs.Results.{names_of_sources}
 use Rattle.lazy_plan.specs.Bench.{BenchState, ops_of, documents, forward}
@@ -22,9 +23,8 @@ use Rattle.mix_talk.specs.declared.fault.TalkFault.TheVariants.{InputFailed, Sin
 use Rattle.mix_talk.proofs.Telling.{spoken_append, spoken_more, spoken_on}
 use Rattle.mix_top.specs.Answered.{IsAnsweredIn, all_told}
 use Rattle.mix_top.specs.Ends.{TookPrefix}
-use Rattle.mix_top.specs.Mounting.{AreMounted}
 use Rattle.mix_top.specs.Question.{Question, IsPlanDocument}
-use Rattle.mix_top.specs.Running.{IsPlanOver, documents_of, question_of}
+use Rattle.mix_top.specs.Running.{ArePlaced, IsPlanOver, documents_of, placed_of, question_of}
 use Rattle.mix_top.specs.Stops.{IsDoneWith, outcome_of, outcome_status}
 use Rattle.mix_top.proofs.Answering.{Frugal, IsAnswering, IsManner, answering, prefix_of}
 use Rattle.mix_top.proofs.LinesEnd.{outcome_is}
@@ -45,27 +45,27 @@ in_talk_is_manner asked q = record {
   more = λ answers more. spoken_more (names_of_sources q.sources) asked answers more;
 }
 
-module _ (files : FilesView) (a b : Mounting) (came : CameFrom a b) (basis : Basis) (mounted : AreMounted files (plan_value basis.plan).ops basis.catalog a.docs)
+module _ (files : FilesView) (a b : Reaching) (came : CameFrom a b) (basis : Basis) (mounted : ArePlaced files (plan_value basis.plan).ops basis.catalog (placed_of a))
     (over : IsPlanOver basis.catalog (plan_value basis.plan)) (st : BenchState) (same : ops_of st ≡ (plan_value basis.plan).ops)
-    (docs_are : documents st ≡ documents_of a.tables a.docs) (ahead : IsTrue (forward st)) (t : LabelledTree)
-    (document_is : all_told a.tables (plan_value basis.plan).ops basis.catalog ≡ true → IsDocument st t) (unasked : a.fills ≡ 0) (few : b.tables.pages ≤ a.tables.pages + b.fills)
-    (is_document : IsPlanDocument (documents_of a.tables a.docs) (plan_value basis.plan).ops t) (input input' : InputView) (before after : SinkView) where
+    (docs_are : documents st ≡ documents_of (stores_of a) (placed_of a)) (ahead : all_told (stores_of a) (plan_value basis.plan).ops basis.catalog ≡ true → IsTrue (forward st)) (t : LabelledTree)
+    (document_is : all_told (stores_of a) (plan_value basis.plan).ops basis.catalog ≡ true → IsDocument st t) (unasked : a.fills ≡ 0) (few : b.mounted.tables.pages ≤ a.mounted.tables.pages + b.fills)
+    (is_document : IsPlanDocument (documents_of (stores_of a) (placed_of a)) (plan_value basis.plan).ops t) (input input' : InputView) (before after : SinkView) where
   -- the names of the sources of the catalog
   abbrev names : List (List ℕ)
   names = names_of_sources basis.catalog
 
-  -- the course of a talk over what is mounted, by the fills that were asked
+  -- the course of a talk over the sources, by the fills that were asked
   abbrev Course : List Heard → SinkView → SinkView → ℕ → List ℕ → Type 0
-  Course = TalkOver b.fills a.tables b.tables a.docs basis
+  Course = TalkOver b.fills (stores_of a) (stores_of b) (placed_of a) basis
 
   module _ (asked : List Heard) where
     -- the steps among the lines that were heard
     abbrev steps : List Step
     steps = steps_in asked
 
-    -- the question of the steps that were heard, on the document, over what is mounted
+    -- the question of the steps that were heard, on the document, over the sources
     abbrev q : Question
-    q = question_of a.tables a.docs basis.catalog (plan_value basis.plan).ops steps t
+    q = question_of (stores_of a) (placed_of a) basis.catalog (plan_value basis.plan).ops steps t
 
     -- answers that a run on the course of the plan gives
     abbrev Are : List Answer → Type 0
@@ -119,7 +119,7 @@ module _ (files : FilesView) (a b : Mounting) (came : CameFrom a b) (basis : Bas
         let lines = spoken names asked w.answers in
         let less = run.frugal w.answers [] lines w.cost (asked, [], sym (append_nil asked), w.all, [], sym (append_nil lines)) w.written in
         let less' : Frugal (in_talk asked q) a b q before after w.answers = subst (λ (x : List Answer). Frugal (in_talk asked q) a b q before after x) (append_nil w.answers) less in
-        let Is : ℕ → Type 0 = λ n. IsAnsweredIn (in_talk asked q) a.tables b.tables q b.fills before after n lines in
+        let Is : ℕ → Type 0 = λ n. IsAnsweredIn (in_talk asked q) (stores_of a) (stores_of b) q b.fills before after n lines in
         (lines, (t, is_document, subst Is (outcome_is marked w.answers w.marks) (run.whole w.answers w.are less' w.all)), w.written)
 
     -- the lines of a talk came to their end, or were cut short
@@ -130,6 +130,6 @@ module _ (files : FilesView) (a b : Mounting) (came : CameFrom a b) (basis : Bas
     lines_end (Err OutOfMemory) (inl w) = inr (between w)
     lines_end (Err OutOfMemory) (inr w) = inr (within w)
 
-  -- a talk over mounted documents ends as its lines do
+  -- a talk over sources ends as its lines do
   pub talk_lines_end : (r : Result Bool TalkFault) → TalkEnds (plan_course st) (view_of a) (view_of b) names input input' before after r → TalkedAlong Course input input' before after r
   talk_lines_end r e = record { bytes = e.bytes; took = e.took; ends = lines_end (heard_by e.bytes r) r e.ends }

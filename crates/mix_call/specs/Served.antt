@@ -4,22 +4,23 @@ use Rattle.std.specs.Str.{bytes_eq}
 use Rattle.mix_io.specs.Input.{InputView}
 use Rattle.mix_io.specs.Views.{FilesView, SinkView}
 use Rattle.mix_catalog.specs.declared.source.SourceSpec.{SourceSpec}
-use Rattle.mix_mount.specs.declared.mount.Mount.{Mount}
-use Rattle.mix_mount.specs.Mounts.{Mounting, view_of}
+use Rattle.mix_reach.specs.Reach.{Reaching, view_of}
+use Rattle.mix_reach.specs.Stores.{StoresView}
 use Rattle.mix_serve.specs.Ends.{ServingEnds}
 use Rattle.mix_serve.specs.declared.fault.ServeFault.{ServeFault}
 use Rattle.mix_serve.specs.declared.fault.ServeFault.TheVariants.{InputFailed, SinkFailed, OutOfMemory}
 use Rattle.mix_serve.specs.declared.serving.Served.{Served}
 use Rattle.mix_serve.specs.declared.serving.Served.TheVariants.{Whole, Broken, TooLong}
-use Rattle.table_keep.specs.Views.{TablesView}
 use Rattle.mix_top.specs.Course.{IsCatalogFile, IsChosenRefused, ReadsAfter, every}
 use Rattle.mix_top.specs.Ends.{Ends}
 use Rattle.mix_top.specs.FilesRead.{ChosenMayRead}
-use Rattle.mix_top.specs.Mounting.{AllAreMounted}
+use Rattle.mix_top.specs.Mounting.{AllAreMounted, AreSites}
 use Rattle.mix_top.specs.Outside.{Outside}
+use Rattle.mix_top.specs.Running.{Placed}
 use Rattle.mix_top.specs.Texts.{unknown_text}
 use Rattle.mix_top.specs.declared.refusal.Stop.{Stop}
 use Rattle.mix_top.specs.declared.refusal.Stop.TheVariants as stop
+use Rattle.mix_call.specs.declared.serving.Holding.{Holding}
 
 -- the catalog of serving, where command words are those of it
 abbrev pub catalog_of : List (List ℕ) → Option (List ℕ)
@@ -36,9 +37,14 @@ IsServingRefused old new catalog = ReadsAfter (λ sources. IsChosenRefused old n
 abbrev pub ServingMayRead : FilesView → List ℕ → List ℕ → Type 0
 ServingMayRead files catalog path = (path ≡ catalog) ⊎ ((sources : List SourceSpec) × IsCatalogFile files catalog sources × ChosenMayRead files every sources path)
 
--- given documents are those of all sources of a catalog, each as the catalog says
-abbrev pub AreServed : FilesView → List ℕ → List Mount → Type 0
-AreServed files catalog docs = (sources : List SourceSpec) × IsCatalogFile files catalog sources × AllAreMounted files sources docs
+-- given sources are all those of a catalog, each as the catalog says
+abbrev pub AreServed : FilesView → List ℕ → Placed → Type 0
+AreServed files catalog place =
+    (sources : List SourceSpec) × IsCatalogFile files catalog sources × AllAreMounted files sources place.docs × AreSites every sources place.sites
+
+-- what was made ready for serving, as its sources
+abbrev pub placed : Holding → Placed
+placed h = record { docs = h.docs.items; sites = h.sites.items }
 
 -- the files of serving were not all accepted: one is refused, or memory ran out
 abbrev pub IsServingStop : FilesView → FilesView → List ℕ → Stop → Type 0
@@ -46,14 +52,19 @@ IsServingStop old new catalog (stop.Refused r) = IsServingRefused old new catalo
 IsServingStop old new catalog stop.SinkFailed = ⊥
 IsServingStop old new catalog stop.OutOfMemory = Unit {0}
 
--- the state of mounted documents over tables, of which so many fills were asked
-abbrev pub mounting : List Mount → TablesView → ℕ → Mounting
-mounting docs tables fills = record { docs = docs; tables = tables; fills = fills }
+-- the state of sources over stores, of which so many fills were asked, so many of them of what is mounted
+abbrev pub reaching : Placed → StoresView → ℕ → ℕ → Reaching
+reaching place stores own fills = record {
+  mounted = record { docs = place.docs; tables = stores.tables; fills = own };
+  sites = place.sites;
+  fars = stores.fars;
+  fills = fills;
+}
 
--- requests were answered by documents over tables, from no fill on to a number of fills, and that ended
-abbrev pub AreAnswered : List Mount → TablesView → TablesView → InputView → InputView → SinkView → SinkView → Result Served ServeFault → Type 0
-AreAnswered docs before after input input' sink sink' end =
-    (fills : ℕ) × ServingEnds (view_of (mounting docs before 0)) (view_of (mounting docs after fills)) input input' sink sink' end
+-- requests were answered by sources over stores, from no fill on to a number of fills, and that ended
+abbrev pub AreAnswered : Placed → StoresView → StoresView → InputView → InputView → SinkView → SinkView → Result Served ServeFault → Type 0
+AreAnswered place before after input input' sink sink' end =
+    (own : ℕ) × (fills : ℕ) × ServingEnds (view_of (reaching place before 0 0)) (view_of (reaching place after own fills)) input input' sink sink' end
 
 -- the exit status of serving, by how it ended
 abbrev pub serving_status : Result Served ServeFault → ℕ
@@ -64,21 +75,21 @@ serving_status (Err SinkFailed) = 5
 serving_status (Err OutOfMemory) = 6
 serving_status (Err InputFailed) = 10
 
--- all files were accepted: the requests of an input were answered by the documents of all sources of the catalog, and the status says how that ended
+-- all files were accepted: the requests of an input were answered by all sources of the catalog, and the status says how that ended
 pub record HasServed (before after : Outside) (catalog : List ℕ) (input input' : InputView) (sink sink' : SinkView) (status : ℕ) : Type 0 where
-  pub docs : List Mount
-  pub are : AreServed before.files catalog docs
+  pub place : Placed
+  pub are : AreServed before.files catalog place
   pub end : Result Served ServeFault
   pub status_is : status ≡ serving_status end
-  pub answered : AreAnswered docs before.tables after.tables input input' sink sink' end
+  pub answered : AreAnswered place before.stores after.stores input input' sink sink' end
 
--- serving ends: a file is refused, and nothing is taken of the input or asked of tables; or the requests of the input were answered
+-- serving ends: a file is refused, and nothing is taken of the input or asked of stores; or the requests of the input were answered
 abbrev pub ServeEnds : Outside → Outside → List ℕ → InputView → InputView → SinkView → SinkView → ℕ → Type 0
 ServeEnds before after catalog input input' sink sink' status =
-    ((input' ≡ input) × (after.tables ≡ before.tables) × Ends (IsServingRefused before.files after.files catalog) sink sink' status)
+    ((input' ≡ input) × (after.stores ≡ before.stores) × Ends (IsServingRefused before.files after.files catalog) sink sink' status)
     ⊎ HasServed before after catalog input input' sink sink' status
 
--- words are refused that are of no form: nothing is taken of the input, and files and tables stay as they are
+-- words are refused that are of no form: nothing is taken of the input, and files and stores stay as they are
 abbrev pub AreRefused : Outside → Outside → InputView → InputView → SinkView → SinkView → ℕ → Type 0
 AreRefused before after input input' sink sink' status =
     (input' ≡ input) × (after ≡ before) × Ends (λ s lines. (s ≡ 2) × (lines ≡ unknown_text)) sink sink' status

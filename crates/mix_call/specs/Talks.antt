@@ -36,4 +36,4 @@ in_talk asked q = record {
 abbrev pub Talks : Outside → Outside → List ℕ → List ℕ → List Heard → SinkView → SinkView → ℕ → List ℕ → Type 0
 Talks before after view catalog asked sink sink' status lines =
     (q : Question) × IsTalk before view catalog asked q
-    × (fills : ℕ) × IsAnsweredIn (in_talk asked q) before.tables after.tables q fills sink sink' status lines
+    × (fills : ℕ) × IsAnsweredIn (in_talk asked q) before.stores after.stores q fills sink sink' status lines

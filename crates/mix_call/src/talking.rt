@@ -3,22 +3,23 @@ ghost use Rattle.std.specs.Prelude.{◌≡◌, ◌≤◌, ℕ, length, IfOk, IfE
 ghost use Rattle.mix_io.specs.Input.{InputView};
 ghost use Rattle.mix_io.specs.Views.{FilesView, SinkView, KeepsFiles};
 ghost use Rattle.plan_core.specs.PlanMade.{plan_value};
-ghost use Rattle.mix_mount.specs.Mounts.{CameFrom, docs_of, fills_of, mounted_in};
-ghost use Rattle.table_keep.specs.Views.{KeepsTables, TablesView};
+ghost use Rattle.mix_reach.specs.Reach.{CameFrom, reaching_in};
+ghost use Rattle.mix_reach.specs.Stores.{KeepsStores, StoresView, stores_in};
 ghost use Rattle.mix_top.specs.FilesRead.{ReadsAmong};
-ghost use Rattle.mix_top.specs.Mounting.{AreMounted};
 ghost use Rattle.mix_top.specs.Outside.{outside};
-ghost use Rattle.mix_top.specs.Running.{IsPlanOver};
+ghost use Rattle.mix_top.specs.Running.{ArePlaced, IsPlanOver, placed_of};
 ghost use Rattle.mix_call.specs.Ends.{TalkEnds, TalkedAlong, talk_status};
-ghost use Rattle.mix_call.specs.Over.{IsMountedEnd, IsReady, IsReadyStop, TalkOver};
+ghost use Rattle.mix_call.specs.Over.{IsReachedEnd, IsReady, IsReadyStop, TalkOver, placed};
 ghost use Rattle.mix_call.specs.Talks.{TalkMayRead};
 
+use far_keep::Fars;
 use lazy_value::{Mediator, valid_plans_have_documents};
 use mix_catalog::Catalog;
 use mix_io::{Files, Input, Sink, Streams};
 use mix_mount::{Mount, Mounted};
+use mix_reach::{Reached, Site, Stores};
 use mix_talk::{TalkFault, talk_lines};
-use mix_top::{Stop, load_catalog, load_view, mount_sources, refuse, source_names};
+use mix_top::{Stop, load_catalog, load_view, mount_sources, read_sites, refuse, source_names};
 use plan_core::{Plan, visited_are_matches};
 use std::alloc::Global;
 use table_keep::Tables;
@@ -37,11 +38,12 @@ pub struct Basis {
     pub plan: Plan,
 }
 
-/// What a talk needs: what it is over, and the documents of the sources that the plan reads.
+/// What a talk needs: what it is over, the documents of the sources that the plan reads, and where each source is.
 #[derive(Drop)]
 pub struct Ready {
     pub basis: Basis,
     pub docs: Vec<Mount>,
+    pub sites: Vec<Site>,
 }
 
 // Reads the files of a talk, each accepted before the next is read: the catalog, the view, and then those of the sources that the view's
@@ -56,24 +58,27 @@ fn make_ready<F: Files>(alloc: Global, talking: &Talking<'_>, files: &mut F) -> 
     let catalog = load_catalog(alloc, files, talking.catalog)?;
     let plan = load_view(alloc, files, talking.view, &catalog)?;
     let docs = mount_sources(alloc, files, &catalog, &plan)?;
+    let sites = read_sites(alloc, &catalog, &plan)?;
     Ok(Ready {
         basis: Basis { catalog, plan },
         docs,
+        sites,
     })
 }
 
-// Answers the lines of an input on the document of a plan over mounted sources, of which no fill was asked yet.
-fn talk_over<T: Tables, I: Input, K: Sink>(
+// Answers the lines of an input on the document of a plan over sources, of which no fill was asked yet.
+fn talk_over<T: Tables, R: Fars, I: Input, K: Sink>(
     alloc: Global,
     basis: Basis,
-    sources: &mut Mounted<T>,
+    sources: &mut Reached<T, R>,
     streams: &mut Streams<I, K>,
 ) -> Result<bool, TalkFault>
     requires over { IsPlanOver basis.catalog (plan_value basis.plan) }
-    requires mounted { (files : FilesView) × AreMounted files (plan_value basis.plan).ops basis.catalog (docs_of sources.old) }
-    requires unasked { fills_of sources.old ≡ 0 }
-    ensures came { CameFrom (mounted_in T.view sources.old) (mounted_in T.view sources.new) }
-    ensures end { IsMountedEnd (mounted_in T.view sources.old) (mounted_in T.view sources.new) basis
+    requires placed { let place = placed_of (reaching_in T.view R.view sources.old) in
+        (files : FilesView) × ArePlaced files (plan_value basis.plan).ops basis.catalog place }
+    requires unasked { sources.old.fills ≡ 0 }
+    ensures came { CameFrom (reaching_in T.view R.view sources.old) (reaching_in T.view R.view sources.new) }
+    ensures end { IsReachedEnd (reaching_in T.view R.view sources.old) (reaching_in T.view R.view sources.new) basis
         (I.view streams.old.input) (I.view streams.new.input) (K.view streams.old.out) (K.view streams.new.out) result }
     ensures input { (I.view streams.old.input).faults ≤ (I.view streams.new.input).faults }
     ensures count { (K.view streams.old.out).faults ≤ (K.view streams.new.out).faults }
@@ -85,29 +90,33 @@ fn talk_over<T: Tables, I: Input, K: Sink>(
     talk_lines(alloc, sources, mediator, &names, streams)
 }
 
-// Answers the lines of an input over mounted documents and tables, which are handed back.
-fn talk_ready<T: Tables, I: Input, K: Sink>(
+// Answers the lines of an input over mounted documents and stores, which are handed back.
+fn talk_ready<T: Tables, R: Fars, I: Input, K: Sink>(
     alloc: Global,
     ready: Ready,
-    tables: T,
+    stores: Stores<T, R>,
     streams: &mut Streams<I, K>,
-) -> (Result<bool, TalkFault>, T)
+) -> (Result<bool, TalkFault>, Stores<T, R>)
     requires over { IsPlanOver ready.basis.catalog (plan_value ready.basis.plan) }
-    requires mounted { (files : FilesView) × AreMounted files (plan_value ready.basis.plan).ops ready.basis.catalog ready.docs.items }
+    requires placed { let basis = ready.basis in
+        (files : FilesView) × ArePlaced files (plan_value basis.plan).ops basis.catalog (placed ready) }
     requires few { length ready.docs.items ≤ 32 }
-    ensures keeps { KeepsTables (T.view tables) (T.view result.1) }
-    ensures end { (fills : ℕ) × TalkedAlong (TalkOver fills (T.view tables) (T.view result.1) ready.docs.items ready.basis)
+    ensures keeps { KeepsStores (stores_in T.view R.view stores) (stores_in T.view R.view result.1) }
+    ensures end { let old = stores_in T.view R.view stores in let new = stores_in T.view R.view result.1 in
+        (fills : ℕ) × TalkedAlong (TalkOver fills old new (placed ready) ready.basis)
         (I.view streams.old.input) (I.view streams.new.input) (K.view streams.old.out) (K.view streams.new.out) result.0 }
     ensures input { (I.view streams.old.input).faults ≤ (I.view streams.new.input).faults }
     ensures count { (K.view streams.old.out).faults ≤ (K.view streams.new.out).faults }
 {
-    let Ready { basis, docs } = ready;
-    let mut sources = Mounted::new(docs, tables);
+    let Ready { basis, docs, sites } = ready;
+    let Stores { tables, fars } = stores;
+    let mut sources = Reached::new(Mounted::new(docs, tables), sites, fars);
     let end = talk_over(alloc, basis, &mut sources, streams);
-    let tables = sources.into_tables();
+    let (mounted, fars) = sources.into_parts();
+    let tables = mounted.into_tables();
     let pages = tables.pages();
     prove!(pages <= u64::MAX);
-    (end, tables)
+    (end, Stores { tables, fars })
 }
 
 // The exit status of a talk, by how it ended.
@@ -124,33 +133,33 @@ fn status_of(end: Result<bool, TalkFault>) -> u8
 }
 
 /// Answers the lines of an input, as they come, on the finished document of the view that VIEW spells over the sources of CATALOG, each by one
-/// write before more is taken. The files are read as `run` reads them, all before a line is taken. Tables are first asked by a step, and
-/// are handed back (docs/FORMATS.md, "Talks").
-pub fn talk<F: Files, T: Tables, I: Input, K: Sink>(
+/// write before more is taken. The files are read as `run` reads them, all before a line is taken. Tables and sources of other
+/// machines are first asked by a step, and are handed back (docs/FORMATS.md, "Talks").
+pub fn talk<F: Files, T: Tables, R: Fars, I: Input, K: Sink>(
     alloc: Global,
     talking: &Talking<'_>,
     files: &mut F,
-    tables: T,
+    stores: Stores<T, R>,
     streams: &mut Streams<I, K>,
-) -> (u8, T)
-    ensures ends { let t = talking.now in
-        TalkEnds (outside (F.view files.old) (T.view tables)) (outside (F.view files.new) (T.view result.1)) t.view.now t.catalog.now
+) -> (u8, Stores<T, R>)
+    ensures ends { let t = talking.now in let old = stores_in T.view R.view stores in let new = stores_in T.view R.view result.1 in
+        TalkEnds (outside (F.view files.old) old) (outside (F.view files.new) new) t.view.now t.catalog.now
         (I.view streams.old.input) (I.view streams.new.input) (K.view streams.old.out) (K.view streams.new.out) result.0 }
     ensures reads { let old = F.view files.old in
         ReadsAmong (TalkMayRead old talking.now.view.now talking.now.catalog.now) old (F.view files.new) }
     ensures keeps { KeepsFiles (F.view files.old) (F.view files.new) }
-    ensures keeps_tables { KeepsTables (T.view tables) (T.view result.1) }
+    ensures keeps_stores { KeepsStores (stores_in T.view R.view stores) (stores_in T.view R.view result.1) }
     ensures input { (I.view streams.old.input).faults ≤ (I.view streams.new.input).faults }
     ensures count { (K.view streams.old.out).faults ≤ (K.view streams.new.out).faults }
 {
     visited_are_matches();
     match make_ready(alloc, talking, files) {
         Ok(ready) => {
-            let (end, tables) = talk_ready(alloc, ready, tables, streams);
-            (status_of(end), tables)
+            let (end, stores) = talk_ready(alloc, ready, stores, streams);
+            (status_of(end), stores)
         }
-        Err(Stop::Refused(refusal)) => (refuse(alloc, refusal, &mut streams.out), tables),
-        Err(Stop::SinkFailed) => (5, tables),
-        Err(Stop::OutOfMemory) => (6, tables),
+        Err(Stop::Refused(refusal)) => (refuse(alloc, refusal, &mut streams.out), stores),
+        Err(Stop::SinkFailed) => (5, stores),
+        Err(Stop::OutOfMemory) => (6, stores),
     }
 }

@@ -20,7 +20,7 @@ mapped_some f None y e = none_some y e
 mapped_some f (Some x) y e = (x, refl, some_is (f x) y e)
 
 -- what gives a number is 1 to 9 digits that write it
-number_of-found : (digits : List ℕ) (n : ℕ) → number_of digits ≡ Some n → IsNumber digits n
+pub number_of-found : (digits : List ℕ) (n : ℕ) → number_of digits ≡ Some n → IsNumber digits n
 number_of-found digits n e = by_case (nat_le 1 (length digits) && nat_le (length digits) 9) refl e
   where
     by_case : (t : Bool) → (nat_le 1 (length digits) && nat_le (length digits) 9) ≡ t → cond t (number_after 0 digits) None ≡ Some n → IsNumber digits n

@@ -1,4 +1,5 @@
 pub mod Accepted
+pub mod Between
 pub mod ColumnsSeen
 pub mod ColumnsSpelled
 pub mod Cuttings
@@ -8,6 +9,7 @@ pub mod NameText
 pub mod NamedApart
 pub mod Numbered
 pub mod OneAnswer
+pub mod Remotes
 pub mod Seens
 pub mod Spelled
 pub mod Tables

@@ -1,6 +1,6 @@
 -- A line's source as it is found, and as it is spelled.
 use Rattle.std.proofs.Common.{◌≡◌, ◌+◌, ◌∙◌, ℕ, Bool, true, false, cond, ◌&&◌, IsTrue, List, [], ◌∷◌, ◌++◌, Option, Some, None, option_map, option_and_then, refl, sym, ap, subst, length, take, drop, codes, MatchOption}
-use Rattle.std.proofs.lemmas.List.{take_at, drop_at, take-append-drop}
+use Rattle.std.proofs.lemmas.List.{take-append-drop}
 use Rattle.std.specs.Str.{IsUtf8, bytes_eq}
 use Rattle.mix_base.proofs.Choices.{and_parts, some_is, none_some}
 use Rattle.mix_tree.specs.Names.{IsName}
@@ -18,35 +18,44 @@ use Rattle.mix_catalog.specs.declared.form.Form.TheVariants as form
 use Rattle.mix_catalog.specs.declared.form.Prefix.{Prefix}
 use Rattle.mix_catalog.specs.declared.source.SourceSpec.{SourceSpec}
 use Rattle.mix_catalog.specs.declared.source.SourceKind.{SourceKind}
-use Rattle.mix_catalog.specs.declared.source.SourceKind.TheVariants.{Bracket, Csv, Table}
+use Rattle.mix_catalog.specs.declared.source.SourceKind.TheVariants.{Bracket, Csv, Table, Remote}
 use Rattle.mix_catalog.specs.Columns as columns
 use Rattle.mix_catalog.specs.Columns.{SpellsColumns, columns_at, columns_from, ended}
 use Rattle.mix_catalog.specs.Forms.{is_source_name, form_of, prefix_with, prefix_of, cutting_of, chunk_after, is_columns_word}
 use Rattle.mix_words.specs.Places.{ends_blank, place_of_word}
-use Rattle.mix_catalog.specs.Seen.{bracket, csv, table, columns_seen, csv_at, form_after, source_after, source_seen, source_at, line_source}
+use Rattle.mix_catalog.specs.Seen.{bracket, csv, table, remote, columns_seen, csv_at, form_after, source_after, source_seen, source_at, line_source}
+use Rattle.mix_catalog.specs.Remotes.{remote_of}
 use Rattle.mix_catalog.specs.Tables.{table_of}
 use Rattle.mix_catalog.specs.Grammar.{AreTableWords, SpellsCutting, SpellsBetween, SpellsAfter, Spells, SpellsNone, form_in, form_word, file_of, prefix_words}
 use Rattle.mix_catalog.proofs.NameText.{name_tested, name_passes}
-use Rattle.mix_words.proofs.WordPlaces.{place_found, place_apart}
-use Rattle.mix_catalog.proofs.Seens.{Begins, spelling_begins, spelling_seen, word_end_stops}
+use Rattle.mix_words.proofs.WordPlaces.{place_apart}
+use Rattle.mix_catalog.proofs.Between.{between_placed}
+use Rattle.mix_catalog.proofs.Seens.{spelling_begins, spelling_seen, word_end_stops}
 use Rattle.mix_catalog.proofs.ColumnsSpelled.{columns_begin, spelled_seen, seen_spelled}
 use Rattle.mix_catalog.proofs.Cuttings.{same_bytes, mapped_some, cutting_found, cutting_given, chunk_found, chunk_given, columns_word}
+use Rattle.mix_catalog.proofs.Remotes.{IsRemote, remote_found, remote_given}
 use Rattle.mix_catalog.proofs.Tables.{table_found, table_given}
 
 -- the word that names a form
 form_of-found : (word : List ℕ) (f : Form) → form_of word ≡ Some f → word ≡ form_word f
 form_of-found word f e = by_bracket (bytes_eq word (codes "bracket")) refl e
   where
-    by_table : (t : Bool) → bytes_eq word (codes "table") ≡ t → cond t (Some form.Table) None ≡ Some f → word ≡ form_word f
-    by_table true h g = same_bytes word (codes "table") h ∙ ap form_word (some_is form.Table f g)
-    by_table false h g = none_some f g
+    by_remote : (t : Bool) → bytes_eq word (codes "remote") ≡ t → cond t (Some form.Remote) None ≡ Some f → word ≡ form_word f
+    by_remote true h g = same_bytes word (codes "remote") h ∙ ap form_word (some_is form.Remote f g)
+    by_remote false h g = none_some f g
 
-    by_csv : (t : Bool) → bytes_eq word (codes "csv") ≡ t → cond t (Some form.Csv) (cond (bytes_eq word (codes "table")) (Some form.Table) None) ≡ Some f → word ≡ form_word f
+    by_table : (t : Bool) → bytes_eq word (codes "table") ≡ t → cond t (Some form.Table) (cond (bytes_eq word (codes "remote")) (Some form.Remote) None) ≡ Some f → word ≡ form_word f
+    by_table true h g = same_bytes word (codes "table") h ∙ ap form_word (some_is form.Table f g)
+    by_table false h g = by_remote (bytes_eq word (codes "remote")) refl g
+
+    by_csv : (t : Bool) → bytes_eq word (codes "csv") ≡ t
+        → cond t (Some form.Csv) (cond (bytes_eq word (codes "table")) (Some form.Table) (cond (bytes_eq word (codes "remote")) (Some form.Remote) None)) ≡ Some f → word ≡ form_word f
     by_csv true h g = same_bytes word (codes "csv") h ∙ ap form_word (some_is form.Csv f g)
     by_csv false h g = by_table (bytes_eq word (codes "table")) refl g
 
     by_bracket : (t : Bool) → bytes_eq word (codes "bracket") ≡ t
-        → cond t (Some form.Bracket) (cond (bytes_eq word (codes "csv")) (Some form.Csv) (cond (bytes_eq word (codes "table")) (Some form.Table) None)) ≡ Some f → word ≡ form_word f
+        → cond t (Some form.Bracket) (cond (bytes_eq word (codes "csv")) (Some form.Csv) (cond (bytes_eq word (codes "table")) (Some form.Table) (cond (bytes_eq word (codes "remote")) (Some form.Remote) None))) ≡ Some f
+        → word ≡ form_word f
     by_bracket true h g = same_bytes word (codes "bracket") h ∙ ap form_word (some_is form.Bracket f g)
     by_bracket false h g = by_csv (bytes_eq word (codes "csv")) refl g
 
@@ -77,6 +86,7 @@ prefix_of-given : (name : List ℕ) (f : Form) → IsName name → prefix_of (pr
 prefix_of-given name form.Bracket named = let passes : is_source_name name ≡ true = name_passes name named in rw passes refl
 prefix_of-given name form.Csv named = let passes : is_source_name name ≡ true = name_passes name named in rw passes refl
 prefix_of-given name form.Table named = let passes : is_source_name name ≡ true = name_passes name named in rw passes refl
+prefix_of-given name form.Remote named = let passes : is_source_name name ≡ true = name_passes name named in rw passes refl
 
 -- what stands after a file is that of the source found of it, which is of the form
 record AfterIs (f : Form) (name file after : List ℕ) (s : SourceSpec) : Type 0 where
@@ -127,6 +137,10 @@ after_found form.Table name file after s e =
     let m = mapped_some (table name file) (table_of (words_of after)) s e in
     let spells : AreTableWords m.0.chunk m.0.table m.0.key m.0.columns (words_of after) = table_found (words_of after) m.0 m.1 in
     subst (AfterIs form.Table name file after) m.2 (record { name_is = refl; file_is = refl; form_is = refl; spells = spells })
+after_found form.Remote name file after s e =
+    let m = mapped_some (remote name file) (remote_of after) s e in
+    let spells : IsRemote after m.0 = remote_found after m.0 m.1 in
+    subst (AfterIs form.Remote name file after) m.2 (record { name_is = refl; file_is = refl; form_is = refl; spells = (refl, spells) })
 
 -- a source that is found where FILE begins is spelled
 found_is_spelled : (line prefix x : List ℕ) (at : ℕ) (o : Option Prefix) (seen : Seen) (s : SourceSpec) → IsUtf8 line → line ≡ prefix ++ x → IsTrue (ends_blank true prefix) → prefix_of (words_of prefix) ≡ o
@@ -165,22 +179,6 @@ found_spells line at s utf8 blank e =
     found_is_spelled line (take at line) (drop at line) at (prefix_of (words_of (take at line))) (seen_from start at (drop at line)) s utf8 (sym (take-append-drop at line)) blank refl
     (saw (drop at line) start at) e
 
--- where what is spelled between blanks begins
-record Placed (n at : ℕ) (text prefix rest : List ℕ) : Type 0 where
-  pub place : place_of_word n text ≡ Some at
-  pub prefix_is : take at text ≡ prefix
-  pub rest_is : drop at text ≡ rest
-
--- what is spelled between words and blanks begins at the place after those words
-between_placed : (words : List (List ℕ)) (S B : List ℕ → Type 0) (text : List ℕ) (h : SpellsBetween words S B text) → Begins h.spelling → Placed (length words) (length h.prefix) text h.prefix (h.spelling ++ h.after)
-between_placed words S B text h begins =
-    let cut : text ≡ h.prefix ++ begins.byte ∷ (begins.rest ++ h.after) = h.parts ∙ ap (λ x. h.prefix ++ (x ++ h.after)) begins.parts in
-    record {
-      place = ap (place_of_word (length words)) cut ∙ place_found h.prefix (length words) begins.byte (begins.rest ++ h.after) (ap length h.words_are) h.blank_before begins.other;
-      prefix_is = ap (take (length h.prefix)) h.parts ∙ take_at h.prefix (h.spelling ++ h.after) (length h.prefix) refl;
-      rest_is = ap (drop (length h.prefix)) h.parts ∙ drop_at h.prefix (h.spelling ++ h.after) (length h.prefix) refl;
-    }
-
 -- a CSV source that is spelled after its file is found there
 csv_given : (name file : List ℕ) (labels : List (List ℕ)) (chunk : ℕ) (after : List ℕ) → SpellsBetween (codes "columns" ∷ []) (SpellsColumns labels) (SpellsCutting chunk false) after
     → form_after form.Csv name file after ≡ Some (csv name file labels chunk)
@@ -198,6 +196,8 @@ after_given : (name : List ℕ) (chunk : ℕ) (kind : SourceKind) (after : List 
 after_given name chunk (Bracket file deep) after h = ap (option_map (bracket name file)) (cutting_given after chunk deep h)
 after_given name chunk (Csv file labels) after h = csv_given name file labels chunk after h
 after_given name chunk (Table file of key columns) after h = ap (option_map (table name file)) (table_given chunk of key columns (words_of after) h)
+after_given name chunk (Remote replies requests number) after (one, h) =
+    ap (option_map (remote name replies)) (remote_given after requests number h) ∙ ap (λ n. Some (record { name = name; chunk = n; kind = Remote replies requests number })) (sym one)
 
 -- a source that is spelled in a line is found there
 pub spelled_found : (line : List ℕ) (s : SourceSpec) → Spells line s → line_source line ≡ Some s

@@ -7,7 +7,7 @@ use Rattle.mix_tree.specs.Names.{is_name_byte}
 use Rattle.mix_words.specs.Words.{words_of, ends_word}
 use Rattle.mix_catalog.specs.declared.form.Cutting.{Cutting}
 use Rattle.mix_catalog.specs.declared.form.Form.{Form}
-use Rattle.mix_catalog.specs.declared.form.Form.TheVariants.{Bracket, Csv, Table}
+use Rattle.mix_catalog.specs.declared.form.Form.TheVariants.{Bracket, Csv, Table, Remote}
 use Rattle.mix_catalog.specs.declared.form.Prefix.{Prefix}
 
 -- whether a word may name a source: one or more ASCII letters, digits, _ and -
@@ -16,7 +16,7 @@ is_source_name word = nat_le 1 (length word) && list_all is_name_byte word
 
 -- the form that a word names
 abbrev pub form_of : List ℕ → Option Form
-form_of word = cond (bytes_eq word (codes "bracket")) (Some Bracket) (cond (bytes_eq word (codes "csv")) (Some Csv) (cond (bytes_eq word (codes "table")) (Some Table) None))
+form_of word = cond (bytes_eq word (codes "bracket")) (Some Bracket) (cond (bytes_eq word (codes "csv")) (Some Csv) (cond (bytes_eq word (codes "table")) (Some Table) (cond (bytes_eq word (codes "remote")) (Some Remote) None)))
 
 -- the words before a file that have this name and this form
 abbrev pub prefix_with : List ℕ → Form → Prefix
@@ -46,6 +46,12 @@ number_after n (b ∷ bs) = option_and_then (λ d. number_after (10 * n + d) bs)
 -- the number of 1 to 9 digits, which may begin with zeros
 abbrev pub number_of : List ℕ → Option ℕ
 number_of word = cond (nat_le 1 (length word) && nat_le (length word) 9) (number_after 0 word) None
+
+-- the number of the only word
+abbrev pub number_word : List (List ℕ) → Option ℕ
+number_word [] = None
+number_word (word ∷ []) = number_of word
+number_word (a ∷ b ∷ words) = None
 
 -- the number that is written as chunk and digits
 abbrev pub chunk_form : List ℕ → List ℕ → Option ℕ

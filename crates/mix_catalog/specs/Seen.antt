@@ -6,12 +6,14 @@ use Rattle.mix_catalog.specs.declared.form.Cutting.{Cutting}
 use Rattle.mix_catalog.specs.declared.form.Form.{Form}
 use Rattle.mix_catalog.specs.declared.form.Form.TheVariants as form
 use Rattle.mix_catalog.specs.declared.form.Prefix.{Prefix}
+use Rattle.mix_catalog.specs.declared.remote.RemoteAfter.{RemoteAfter}
 use Rattle.mix_catalog.specs.declared.source.SourceSpec.{SourceSpec}
 use Rattle.mix_catalog.specs.declared.table.TableAfter.{TableAfter}
-use Rattle.mix_catalog.specs.declared.source.SourceKind.TheVariants.{Bracket, Csv, Table}
+use Rattle.mix_catalog.specs.declared.source.SourceKind.TheVariants.{Bracket, Csv, Table, Remote}
 use Rattle.mix_catalog.specs.Columns.{columns_at}
 use Rattle.mix_catalog.specs.Columns as columns
 use Rattle.mix_catalog.specs.Forms.{prefix_of, cutting_of, chunk_after, is_columns_word}
+use Rattle.mix_catalog.specs.Remotes.{remote_of}
 use Rattle.mix_catalog.specs.Tables.{table_of}
 use Rattle.mix_words.specs.Places.{place_of_word}
 
@@ -27,6 +29,10 @@ csv name file labels chunk = record { name = name; chunk = chunk; kind = Csv fil
 abbrev pub table : List ℕ → List ℕ → TableAfter → SourceSpec
 table name file t = record { name = name; chunk = t.chunk; kind = Table file t.table t.key t.columns }
 
+-- the remote source of a name, a file of replies, and what stands after that file
+abbrev pub remote : List ℕ → List ℕ → RemoteAfter → SourceSpec
+remote name replies r = record { name = name; chunk = 1; kind = Remote replies r.requests r.number }
+
 -- the CSV source of what is seen of its columns
 abbrev pub columns_seen : List ℕ → List ℕ → Option columns.Seen → Option SourceSpec
 columns_seen name file None = None
@@ -41,6 +47,7 @@ abbrev pub form_after : Form → List ℕ → List ℕ → List ℕ → Option S
 form_after form.Bracket name file after = option_map (bracket name file) (cutting_of (words_of after))
 form_after form.Csv name file after = option_and_then (csv_at name file after) (place_of_word 1 after)
 form_after form.Table name file after = option_map (table name file) (table_of (words_of after))
+form_after form.Remote name file after = option_map (remote name file) (remote_of after)
 
 -- the source of what stands before its file, of the file, and of what stands after it
 abbrev pub source_after : Prefix → List ℕ → List ℕ → Option SourceSpec

@@ -1,28 +1,19 @@
-// What stands after the file of a line: how its source is cut, and its columns.
+// What stands after the file of a line: how its source is cut, and its columns, or which of another machine's sources it is.
 ghost use Rattle.std.specs.Prelude.{◌≡◌, IfOk, IsUtf8};
-ghost use Rattle.mix_words.specs.Words.{ends_word, words_of};
-ghost use Rattle.mix_catalog.specs.declared.form.Form.TheVariants.{Bracket, Csv, Table};
+ghost use Rattle.mix_words.specs.Words.{words_of};
+ghost use Rattle.mix_catalog.specs.declared.form.Form.TheVariants.{Bracket, Csv, Table, Remote};
 ghost use Rattle.mix_catalog.specs.Forms.{chunk_after, is_columns_word};
 ghost use Rattle.mix_catalog.specs.Seen.{form_after, source_after};
 
 use crate::columns::{Columns, read_columns};
-use crate::form::{Cutting, Form, Prefix, is_columns_word, read_chunk, read_cutting};
+use crate::form::{Cutting, Form, Prefix, is_columns_word, is_word_end, read_chunk, read_cutting};
+use crate::remote::{RemoteAfter, read_remote_after};
 use crate::table::{TableAfter, read_table_after};
 use crate::{ColumnNames, SourceKind, SourceSpec};
 use mix_tree::Label;
 use mix_words::places::word_place;
-use mix_words::words::{cut_words, is_blank_byte};
+use mix_words::words::cut_words;
 use std::alloc::{AllocError, Global};
-
-// Whether a word ends before these bytes.
-fn is_word_end(after: &[u8]) -> bool
-    ensures { result ≡ ends_word after.now }
-{
-    match after {
-        [] => true,
-        [byte, ..] => is_blank_byte(*byte),
-    }
-}
 
 // The bracket source of what stands after its file.
 fn read_bracket(
@@ -115,6 +106,31 @@ fn read_table(
     Ok(Some(SourceSpec { name, chunk, kind }))
 }
 
+// The remote source of what stands after the file of its replies.
+fn read_remote(
+    alloc: Global,
+    name: Label,
+    replies: Label,
+    after: &[u8],
+) -> Result<Option<SourceSpec>, AllocError>
+    requires { IsUtf8 after.now }
+    ensures { IfOk result (λ found. found ≡ form_after Remote name replies after.now) }
+{
+    let Some(RemoteAfter { requests, number }) = read_remote_after(alloc, after)? else {
+        return Ok(None);
+    };
+    let kind = SourceKind::Remote {
+        replies,
+        requests,
+        number,
+    };
+    Ok(Some(SourceSpec {
+        name,
+        chunk: 1,
+        kind,
+    }))
+}
+
 /// The source of what stands before a file, of the file, and of what stands after it; `None` where that fits no form.
 pub fn read_after(
     alloc: Global,
@@ -132,5 +148,6 @@ pub fn read_after(
         Form::Bracket => read_bracket(alloc, prefix.name, file, after),
         Form::Csv => read_csv(alloc, prefix.name, file, after),
         Form::Table => read_table(alloc, prefix.name, file, after),
+        Form::Remote => read_remote(alloc, prefix.name, file, after),
     }
 }

@@ -2,9 +2,11 @@
 ghost use Rattle.std.specs.Prelude.{◌≡◌, IfOk, IsTrue, map};
 ghost use Rattle.std.specs.List.{list_all};
 ghost use Rattle.mix_tree.specs.Names.{is_name_byte};
-ghost use Rattle.mix_catalog.specs.Forms.{is_source_name, form_of, prefix_form, prefix_of, digit_of, number_of, chunk_form, chunk_of, cutting_form, cutting_of, is_columns_word};
+ghost use Rattle.mix_words.specs.Words.{ends_word};
+ghost use Rattle.mix_catalog.specs.Forms.{is_source_name, form_of, prefix_form, prefix_of, digit_of, number_of, chunk_form, chunk_of, cutting_form, cutting_of, is_columns_word, number_word};
 
 use mix_tree::Label;
+use mix_words::words::is_blank_byte;
 use std::alloc::{AllocError, Global};
 
 /// The forms of a line.
@@ -13,6 +15,7 @@ pub enum Form {
     Bracket,
     Csv,
     Table,
+    Remote,
 }
 
 /// What stands before the file of a line.
@@ -60,6 +63,8 @@ fn read_form(word: &[u8]) -> Option<Form>
         Some(Form::Csv)
     } else if word == b"table".as_slice() {
         Some(Form::Table)
+    } else if word == b"remote".as_slice() {
+        Some(Form::Remote)
     } else {
         None
     }
@@ -156,6 +161,26 @@ pub fn read_cutting(words: &[&[u8]]) -> Option<Cutting>
         [chunk, digits] => read_cut(chunk, digits, false),
         [chunk, digits, deep] if *deep == b"deep".as_slice() => read_cut(chunk, digits, true),
         _ => None,
+    }
+}
+
+/// The number of the only word, which is 1 to 9 digits. `None` where it is another, or not the only one.
+pub fn read_number_word(words: &[&[u8]]) -> Option<u32>
+    ensures { result ≡ number_word (map (λ word. word.now) words.now) }
+{
+    match words {
+        [digits] => read_number(digits),
+        _ => None,
+    }
+}
+
+/// Whether a word ends before these bytes.
+pub fn is_word_end(after: &[u8]) -> bool
+    ensures { result ≡ ends_word after.now }
+{
+    match after {
+        [] => true,
+        [byte, ..] => is_blank_byte(*byte),
     }
 }
 

@@ -9,6 +9,7 @@ mod fault;
 mod form;
 mod line;
 mod reading;
+mod remote;
 mod source;
 mod table;
 

@@ -8,11 +8,14 @@ use crate::columns::are_apart;
 use crate::{ColumnNames, TableColumns};
 use mix_tree::Label;
 
-/// A source: its name, the most children that a fill of it gives, and what it is.
+/// A source of a catalog.
 #[derive(Drop)]
 pub struct SourceSpec {
+    /// The source's name.
     pub name: Label,
+    /// The most children that a fill of the source gives; 1 for a remote source, whose lists the other side cuts.
     pub chunk: u32,
+    /// What the source is.
     pub kind: SourceKind,
 }
 
@@ -36,10 +39,17 @@ pub enum SourceKind {
         key: Label,
         columns: TableColumns,
     },
+    /// A source of another machine, behind two files: replies are read from the one, requests are written to the other. `number` is
+    /// that of the source among those of the server behind the files, from 0.
+    Remote {
+        replies: Label,
+        requests: Label,
+        number: u32,
+    },
 }
 
 impl SourceKind {
-    /// The path of the source's file.
+    /// The path of the source's file; of a remote source it is the file of replies.
     pub fn file(&self) -> &Label
         ensures { result.now ≡ file_of self.now }
     {
@@ -47,10 +57,11 @@ impl SourceKind {
             SourceKind::Bracket { file, .. } => file,
             SourceKind::Csv { file, .. } => file,
             SourceKind::Table { file, .. } => file,
+            SourceKind::Remote { replies, .. } => replies,
         }
     }
 
-    /// How many columns the source has; a bracket source has none.
+    /// How many columns the source has; a bracket source and a remote one have none.
     pub fn column_count(&self) -> usize
         ensures { result ≡ length (columns_of self.now) }
     {
@@ -58,6 +69,7 @@ impl SourceKind {
             SourceKind::Bracket { .. } => 0,
             SourceKind::Csv { columns, .. } => columns.as_slice().len(),
             SourceKind::Table { columns, .. } => columns.as_slice().len(),
+            SourceKind::Remote { .. } => 0,
         }
     }
 
@@ -69,6 +81,7 @@ impl SourceKind {
             SourceKind::Bracket { .. } => true,
             SourceKind::Csv { columns, .. } => are_apart(columns.as_slice()),
             SourceKind::Table { columns, .. } => are_named_apart(columns.as_slice()),
+            SourceKind::Remote { .. } => true,
         }
     }
 }

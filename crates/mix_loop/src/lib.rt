@@ -1,4 +1,4 @@
-//! Mounted sources behind a link in memory, read as sources after it.
+//! The sources of a view behind a link in memory, read as sources after it.
 #![tactic(auto)]
 
 mod looped;

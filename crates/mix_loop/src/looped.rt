@@ -1,26 +1,26 @@
-// Mounted sources behind a link in memory.
+// Sources of a view behind a link in memory.
 ghost use Rattle.std.specs.Prelude.{◌≡◌, IfOk, IfErr};
-ghost use Rattle.table_keep.specs.Views.{KeepsTables};
 ghost use Rattle.lxp_remote.specs.Remotes.{CameFrom, Remoting, view_of};
 ghost use Rattle.lxp_wire.specs.Stream.{sources_of};
-ghost use Rattle.mix_mount.specs.Mounts.{CameFrom as CameFromMounting, Mounting, mounted_in};
+ghost use Rattle.mix_reach.specs.Reach.{CameFrom as CameFromReaching, Reaching, reaching_in};
 ghost use Rattle.mix_loop.specs.Loops.{IsOpened, StandIn, looped};
 
+use far_keep::Fars;
 use lxp_remote::Remote;
 use lxp_wire::MemLink;
-use mix_mount::Mounted;
+use mix_reach::Reached;
 use std::alloc::Global;
 use table_keep::Tables;
 
-/// Puts mounted sources behind a link in memory, which is asked how many they are and for the root of each: no fill is asked. Where memory
-/// runs out, the mounted sources come back.
-pub fn open_loop<T: Tables>(
+/// Puts the sources of a view behind a link in memory, which is asked how many they are and for the root of each: no fill is asked. Where
+/// memory runs out, the sources come back.
+pub fn open_loop<T: Tables, R: Fars>(
     alloc: Global,
-    sources: Mounted<T>,
-) -> Result<Remote<MemLink<Mounted<T>>>, Mounted<T>>
-    ensures opened { IfOk result (λ r. IsOpened (mounted_in T.view sources) (mounted_in T.view (sources_of r.link.server))
-        (looped T.view r.link r.peers.items r.fills)) }
-    ensures refused { IfErr result (λ s. CameFromMounting (mounted_in T.view sources) (mounted_in T.view s)) }
+    sources: Reached<T, R>,
+) -> Result<Remote<MemLink<Reached<T, R>>>, Reached<T, R>>
+    ensures opened { let reaching = reaching_in T.view R.view in IfOk result (λ r. IsOpened (reaching sources)
+        (reaching (sources_of r.link.server)) (looped T.view R.view r.link r.peers.items r.fills)) }
+    ensures refused { let reaching = reaching_in T.view R.view in IfErr result (λ s. CameFromReaching (reaching sources) (reaching s)) }
 {
     match Remote::open(alloc, MemLink::new(sources)) {
         Ok(remote) => Ok(remote),
@@ -28,11 +28,12 @@ pub fn open_loop<T: Tables>(
     }
 }
 
-/// The mounted sources behind a link in memory, as they are now. Read through the link, they were stood in for since it was opened.
-pub fn close_loop<T: Tables>(remote: Remote<MemLink<Mounted<T>>>) -> Mounted<T>
+/// The sources behind a link in memory, as they are now. Read through the link, they were stood in for since it was opened.
+pub fn close_loop<T: Tables, R: Fars>(remote: Remote<MemLink<Reached<T, R>>>) -> Reached<T, R>
     ensures sources { result ≡ sources_of remote.link.server }
-    ensures stands { let now = looped T.view remote.link remote.peers.items remote.fills in let b = mounted_in T.view (sources_of remote.link.server) in
-        (a mid : Mounting) (old : Remoting) → IsOpened a mid old → CameFrom old now → CameFromMounting mid b
+    ensures stands { let now = looped T.view R.view remote.link remote.peers.items remote.fills in
+        let b = reaching_in T.view R.view (sources_of remote.link.server) in
+        (a mid : Reaching) (old : Remoting) → IsOpened a mid old → CameFrom old now → CameFromReaching mid b
         → StandIn (view_of old) (view_of now) a b }
 {
     let sources = remote.into_link().into_sources();

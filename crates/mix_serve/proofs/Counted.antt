@@ -7,7 +7,7 @@ use Rattle.lxp_wire.specs.Answer.{AnswersFill, AreAnswers, IsAnswer}
 use Rattle.wire_text.specs.declared.request.Request.{Request}
 use Rattle.wire_text.specs.declared.request.Request.TheVariants.{Count, Root, Fill}
 use Rattle.wire_text.specs.Reply.{Said, count, root, list, failed, unknown_hole, no_memory, no_source}
-use Rattle.mix_serve.specs.Failures.{FailuresAreCounted, asks, failures, is_failed}
+use Rattle.mix_serve.specs.Failures.{asks, failures, is_failed}
 
 -- a count that rose where a test holds has risen by one where it holds, and else by nothing
 risen_where : (b : Bool) (before now : ℕ) → before ≤ now → (b ≡ true → HasRisen before now) → HasRisenBy (cond b 1 0) before now
@@ -38,7 +38,7 @@ risen_twice : (m n a b c : ℕ) → HasRisenBy m a b → HasRisenBy n b c → Ha
 risen_twice m n a b c h k = omega (arith, h, k)
 
 -- of each source at most as many replies say that it failed as its count of faults rose
-pub failures_counted : FailuresAreCounted
+pub failures_counted : (old new : View) (requests : List Request) (said : List Said) → AreAnswers old new requests said → (s : ℕ) → HasRisenBy (failures s requests said) (old.faults s) (new.faults s)
 failures_counted old new [] [] h s = omega (arith, ap (λ (v : View). v.faults s) h)
 failures_counted old new [] (a ∷ said) h s = absurd h
 failures_counted old new (r ∷ rs) [] h s = absurd h

@@ -27,6 +27,7 @@ use Rattle.mix_serve.specs.declared.serving.Served.TheVariants.{Whole, Broken, T
 use Rattle.mix_serve.proofs.Joined.{fills_join, replied_fills, replied_join}
 use Rattle.mix_io.proofs.Taken.{took_more, took_none}
 use Rattle.mix_serve.proofs.Appended.{appends_none, appends_prefix, appends_whole}
+use Rattle.mix_serve.proofs.Counted.{failures_counted}
 
 -- serving has come so far: these bytes were taken, none of them is a bad tag, and all replies to them were written
 pub record IsServing (old now : View) (input input' : InputView) (sink sink' : SinkView) (stream : Stream) (taken : ℕ) : Type 0 where
@@ -53,7 +54,7 @@ serving_start v input sink = record {
   count = refl;
   written = record {
     replies = [];
-    replied = record { requests = []; said = []; cut = no_requests; answers = refl; written = refl };
+    replied = record { requests = []; said = []; cut = no_requests; answers = refl; written = refl; counted = failures_counted v v [] [] refl };
     written = appends_none sink.written;
   };
   going = nothing_more;
@@ -167,7 +168,14 @@ module _ {old now : View} {input mid : InputView} {sink between : SinkView} {str
           requests = fed.requests;
           rest = cut.0;
           replied = replied_join old now new far.bytes stream.begun piece cut.0 far.written.replies replies far.written.replied
-              record { requests = fed.requests; said = fed.said; cut = cut.1; answers = fed.answers; written = fed.written };
+              record {
+                requests = fed.requests;
+                said = fed.said;
+                cut = cut.1;
+                answers = fed.answers;
+                written = fed.written;
+                counted = failures_counted now new fed.requests fed.said fed.answers;
+              };
           partial = cut.1.partial;
           kept = cut.2;
         }

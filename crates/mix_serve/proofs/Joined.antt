@@ -13,6 +13,7 @@ use Rattle.wire_text.specs.Reply.{Said, reply_bytes}
 use Rattle.wire_text.specs.Request.{request_bytes, IsRequest, IsPrefixOfRequest}
 use Rattle.wire_text.proofs.Asked.{apart}
 use Rattle.mix_serve.specs.Replied.{IsReplied}
+use Rattle.mix_serve.proofs.Counted.{failures_counted}
 
 -- answers and then more of them are answers to all the requests
 answers_join : (old mid new : View) (rs qs : List Request) (said more : List Said) → AreAnswers old mid rs said → AreAnswers mid new qs more → AreAnswers old new (rs ++ qs) (said ++ more)
@@ -31,13 +32,16 @@ replies_join (a ∷ said) more =
 -- the bytes of a stream were answered, and those of its next piece with what they left: all of them were answered
 pub replied_join : (old mid new : View) (bytes begun piece rest replies more : List ℕ) → IsReplied old mid bytes begun replies → IsReplied mid new (begun ++ piece) rest more
     → IsReplied old new (bytes ++ piece) rest (replies ++ more)
-replied_join old mid new bytes begun piece rest replies more h k = record {
-  requests = h.requests ++ k.requests;
-  said = h.said ++ k.said;
-  cut = pieces_one bytes piece h.requests k.requests begun rest h.cut k.cut;
-  answers = answers_join old mid new h.requests k.requests h.said k.said h.answers k.answers;
-  written = ap (λ z. z ++ more) h.written ∙ ap (λ z. flat_map reply_bytes h.said ++ z) k.written ∙ sym (replies_join h.said k.said);
-}
+replied_join old mid new bytes begun piece rest replies more h k =
+    let answers = answers_join old mid new h.requests k.requests h.said k.said h.answers k.answers in
+    record {
+      requests = h.requests ++ k.requests;
+      said = h.said ++ k.said;
+      cut = pieces_one bytes piece h.requests k.requests begun rest h.cut k.cut;
+      answers = answers;
+      written = ap (λ z. z ++ more) h.written ∙ ap (λ z. flat_map reply_bytes h.said ++ z) k.written ∙ sym (replies_join h.said k.said);
+      counted = failures_counted old new (h.requests ++ k.requests) (h.said ++ k.said) answers;
+    }
 
 -- answers to requests ask no more fills than these
 answers_fills : (old new : View) (rs : List Request) (said : List Said) → AreAnswers old new rs said → new.fills ≤ old.fills + fills_in rs

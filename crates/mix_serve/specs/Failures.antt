@@ -1,8 +1,5 @@
 -- How many replies say that a source failed.
 use Rattle.std.specs.Prelude.{ℕ, ◌+◌, ◌==◌, ◌&&◌, Bool, true, false, cond, List, [], ◌∷◌}
-use Rattle.mix_base.specs.Counts.{HasRisenBy}
-use Rattle.lxp_core.specs.View.{View}
-use Rattle.lxp_wire.specs.Answer.{AreAnswers}
 use Rattle.wire_text.specs.declared.request.Request.{Request}
 use Rattle.wire_text.specs.declared.request.Request.TheVariants.{Count, Root, Fill}
 use Rattle.wire_text.specs.Reply.{Said, count, root, list, failed, unknown_hole, no_memory, no_source}
@@ -28,7 +25,3 @@ abbrev pub failures : ℕ → List Request → List Said → ℕ
 failures s [] said = 0
 failures s (r ∷ rs) [] = 0
 failures s (r ∷ rs) (a ∷ said) = cond (is_failed a && asks s r) 1 0 + failures s rs said
-
--- of each source at most as many replies say that it failed as its count of faults rose
-abbrev pub FailuresAreCounted : Type 0
-FailuresAreCounted = (old new : View) (requests : List Request) (said : List Said) → AreAnswers old new requests said → (s : ℕ) → HasRisenBy (failures s requests said) (old.faults s) (new.faults s)

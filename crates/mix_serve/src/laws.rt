@@ -1,6 +1,5 @@
 // Laws of streams that are served.
 ghost use Rattle.mix_serve.specs.Ends.{EndsAreApart};
-ghost use Rattle.mix_serve.specs.Failures.{FailuresAreCounted};
 ghost use Rattle.mix_serve.specs.Replied.{PiecesAreAnsweredAsOne};
 
 /// A stream that is answered piece by piece is answered as one.
@@ -11,9 +10,4 @@ pub fn pieces_are_answered_as_one()
 /// A stream that ends whole is neither broken nor too long, and one that is broken isn't too long.
 pub fn ends_are_apart()
     ensures { EndsAreApart }
-{}
-
-/// Of each source at most as many replies say that it failed as its count of faults rose.
-pub fn failures_are_counted()
-    ensures { FailuresAreCounted }
 {}

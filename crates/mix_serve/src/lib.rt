@@ -6,5 +6,5 @@ mod laws;
 mod serving;
 
 pub use fault::ServeFault;
-pub use laws::{ends_are_apart, failures_are_counted, pieces_are_answered_as_one};
+pub use laws::{ends_are_apart, pieces_are_answered_as_one};
 pub use serving::{MOST_TAKEN, ROOM, Served, serve_requests};

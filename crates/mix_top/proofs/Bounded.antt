@@ -2,7 +2,7 @@
 use Rattle.std.proofs.Common.{◌≡◌, ◌∙◌, ◌≤◌, ◌+◌, ℕ, true, false, cond, IsTrue, IfSome, is_some, List, Option, Some, None, refl, sym, subst, ap, arith, slice_get, map}
 use Rattle.mix_tree.specs.Forest.{Forest, alone}
 use Rattle.mix_catalog.specs.declared.source.SourceKind.{SourceKind}
-use Rattle.mix_catalog.specs.declared.source.SourceKind.TheVariants.{Bracket, Csv, Table}
+use Rattle.mix_catalog.specs.declared.source.SourceKind.TheVariants.{Bracket, Csv, Table, Remote}
 use Rattle.mix_catalog.specs.declared.source.SourceSpec.{SourceSpec}
 use Rattle.browse_class.specs.Classes.{BoundedTolls, class_in}
 use Rattle.browse_visit.specs.Layouts.{IsLaid, Layout, any_trees}
@@ -15,7 +15,7 @@ use Rattle.plan_rewrite.specs.Law.{KeepsValidity}
 use Rattle.plan_rewrite.specs.Rewritten.{plan_for}
 use Rattle.table_keep.specs.Rows.{Row}
 use Rattle.table_keep.specs.Views.{Declared}
-use Rattle.table_wrap.specs.Document.{declared_in, is_table_of}
+use Rattle.table_wrap.specs.Document.{declared_in}
 use Rattle.table_wrap.specs.Rows.{table_tree}
 use Rattle.view_class.specs.Laid.{AreRows, FilesAreLaid, TablesAreLaid}
 use Rattle.view_class.specs.Layouts.{declared_column, kind_layout, layout_in, layout_there, rows_layout, spec_layout}
@@ -25,11 +25,11 @@ use Rattle.plan_core.specs.Plans.{Operator}
 use Rattle.mix_top.specs.Answered.{all_told, is_table_told}
 use Rattle.mix_top.specs.Bounded.{AreDeclared, BoundedPlans, BoundedViews}
 use Rattle.mix_top.specs.Course.{HasDocument, IsDocumentOf}
-use Rattle.mix_top.specs.Documents.{StandsFor}
+use Rattle.mix_top.specs.Documents.{StandsFor, is_file_of}
 use Rattle.mix_top.specs.Outside.{Outside}
-use Rattle.mix_top.proofs.ReadTables.{told_at}
+use Rattle.mix_top.proofs.ReadTables.{spec_told_at, told_parts}
 
-module _ (files : FilesAreLaid) (tables : TablesAreLaid) (before : Outside) (ops : List Operator) (sources : List SourceSpec) (declared : AreDeclared before.tables ops sources) where
+module _ (files : FilesAreLaid) (tables : TablesAreLaid) (before : Outside) (ops : List Operator) (sources : List SourceSpec) (declared : AreDeclared before.stores.tables ops sources) where
   -- the rows of a table that is told
   rows_laid : (name : List ℕ) (d : Declared) (f : Forest) (rows : Option (List Row)) → is_some rows ≡ true → IfSome rows (AreRows d.columns)
       → IfSome rows (λ r. f ≡ alone (table_tree name d.columns r)) → IsLaid (rows_layout name (map declared_column d.columns)) f
@@ -37,26 +37,27 @@ module _ (files : FilesAreLaid) (tables : TablesAreLaid) (before : Outside) (ops
   rows_laid name d f (Some r) told are is = subst (λ (x : Forest). IsLaid (rows_layout name (map declared_column d.columns)) x) (sym is) (tables name d.columns r are)
 
   -- the document of a source that the rule names is laid out as its kind says
-  kind_laid : (s : ℕ) (spec : SourceSpec) (f : Forest) → slice_get sources s ≡ Some spec → IsTrue (reads_source ops s) → is_table_told before.tables (declared_in spec.kind) ≡ true → IsDocumentOf before spec f
+  kind_laid : (s : ℕ) (spec : SourceSpec) (f : Forest) → slice_get sources s ≡ Some spec → IsTrue (reads_source ops s) → is_table_told before.stores.tables (declared_in spec.kind) ≡ true → IsDocumentOf before spec f
       → (k : SourceKind) → spec.kind ≡ k → IsLaid (kind_layout spec.name k) f
   kind_laid s spec f at read told is (Bracket file deep) e = tt
   kind_laid s spec f at read told is (Csv file columns) e =
-      let own = is.file (ap is_table_of e) in
+      let own = is.file (ap is_file_of e) in
       let Stands : SourceKind → Type 0 = λ k. StandsFor spec.name k own.1.text own.0 in
       let held = subst Stands e own.1.stands in
       subst (λ (x : Forest). IsLaid (kind_layout spec.name (Csv file columns)) x) (sym (own.2 ∙ ap alone held.2)) (files spec.name columns held.0 held.1.1)
   kind_laid s spec f at read told is (Table file table key columns) e =
       let d : Declared = record { file = file; table = table; key = key; columns = columns } in
       let declares : declared_in spec.kind ≡ Some d = ap declared_in e in
-      rows_laid spec.name d f (before.tables.told d) (subst (λ (o : Option Declared). is_table_told before.tables o ≡ true) declares told)
+      rows_laid spec.name d f (before.stores.tables.told d) (subst (λ (o : Option Declared). is_table_told before.stores.tables o ≡ true) declares told)
       (declared s d (record { spec = spec; there = at; read = read; declares = declares })) (is.rows d declares)
+  kind_laid s spec f at read told is (Remote replies requests number) e = tt
 
   -- the layout of a source that the plan reads, and of another one any
   abbrev read_layout : ℕ → Layout
   read_layout s = cond (reads_source ops s) (layout_in sources s) any_trees
 
   -- the document of the source at a number is laid out as the catalog says
-  there_laid : (s : ℕ) (f : Forest) → (all_told before.tables ops sources ≡ true) → ((spec : SourceSpec) → slice_get sources s ≡ Some spec → HasDocument before ops s spec f)
+  there_laid : (s : ℕ) (f : Forest) → (all_told before.stores ops sources ≡ true) → ((spec : SourceSpec) → slice_get sources s ≡ Some spec → HasDocument before ops s spec f)
       → IsLaid (read_layout s) f
   there_laid s f all has =
       elim (slice_get sources s) as (λ o. slice_get sources s ≡ o → IsLaid (cond (reads_source ops s) (layout_there o) any_trees) f) [
@@ -65,7 +66,8 @@ module _ (files : FilesAreLaid) (tables : TablesAreLaid) (before : Outside) (ops
             elim (reads_source ops s) as (λ b. reads_source ops s ≡ b → IsLaid (cond b (spec_layout spec) any_trees) f) [
               | true ↦ (λ read.
                   let place : s ≡ 0 + s = omega arith in
-                  kind_laid s spec f e read (told_at before.tables ops 0 sources all s spec e (subst (λ (k : ℕ). reads_source ops k ≡ true) place read)) ((has spec e).0 read) spec.kind refl)
+                  kind_laid s spec f e read (told_parts before.stores spec (spec_told_at before.stores ops 0 sources all s spec e (subst (λ (k : ℕ). reads_source ops k ≡ true) place read))).0
+                  ((has spec e).0 read) spec.kind refl)
               | false ↦ λ unread. tt
             ] refl)
       ] refl

@@ -4,8 +4,7 @@ use Rattle.mix_io.specs.Views.{SinkView}
 use Rattle.mix_io.proofs.Written.{one_more}
 use Rattle.mix_lines.specs.declared.fault.LinesFault.{LinesFault}
 use Rattle.mix_lines.specs.declared.fault.LinesFault.TheVariants as lines
-use Rattle.mix_mount.specs.declared.mount.Mount.{Mount}
-use Rattle.table_keep.specs.Views.{TablesView}
+use Rattle.mix_reach.specs.Stores.{StoresView}
 use Rattle.plan_core.specs.PlanMade.{plan_value}
 use Rattle.mix_top.specs.declared.counting.Counts.{Counts}
 use Rattle.mix_top.specs.declared.refusal.Outcome.{Outcome}
@@ -16,25 +15,25 @@ use Rattle.mix_top.specs.Counting.{IsCounted, IsCountStop, lines_of_counts}
 use Rattle.mix_top.specs.Counts.{class_over}
 use Rattle.mix_top.specs.Course.{lines_of_count}
 use Rattle.mix_top.specs.Ends.{TookPrefix}
-use Rattle.mix_top.specs.Running.{IsLinesEnd, LinesOver, by_fills, question}
+use Rattle.mix_top.specs.Running.{IsLinesEnd, LinesOver, Placed, by_fills, question}
 use Rattle.mix_top.specs.Stops.{IsCut, IsDoneAs, IsStop, outcome_status, stop_for}
 use Rattle.mix_top.proofs.Further.{TookOn, answered_on}
 use Rattle.mix_top.proofs.Lines.{cut_last, cut_on, first_prefix, nothing_more}
 
 -- the counts of a run: its commands, its fills, its pages and the class of its view
-pub record AreCounts (tables tables' : TablesView) (asked : Asked) (counts : Counts) : Type 0 where
+pub record AreCounts (stores stores' : StoresView) (asked : Asked) (counts : Counts) : Type 0 where
   pub commands : counts.commands ≡ length asked.steps.items
-  pub pages : counts.spent.pages ≡ tables'.pages - tables.pages
+  pub pages : counts.spent.pages ≡ stores'.tables.pages - stores.tables.pages
   pub class : counts.class ≡ class_over asked.catalog (plan_value asked.plan).ops
 
-module _ (tables tables' : TablesView) (docs : List Mount) (asked : Asked) (counts : Counts) (are : AreCounts tables tables' asked counts) where
+module _ (stores stores' : StoresView) (p : Placed) (asked : Asked) (counts : Counts) (are : AreCounts stores stores' asked counts) where
   -- the lines that answer the script, by the fills that were counted
   abbrev Answers : SinkView → SinkView → ℕ → List ℕ → Type 0
-  Answers = LinesOver (by_fills counts.spent.fills) tables tables' docs asked
+  Answers = LinesOver (by_fills counts.spent.fills) stores stores' p asked
 
   -- the lines of `count`: those that answer the script, and those of the counts
   abbrev Counted : SinkView → SinkView → ℕ → List ℕ → Type 0
-  Counted = LinesOver lines_of_count tables tables' docs asked
+  Counted = LinesOver lines_of_count stores stores' p asked
 
   -- the lines that write the counts
   abbrev more : List ℕ
@@ -43,13 +42,13 @@ module _ (tables tables' : TablesView) (docs : List Mount) (asked : Asked) (coun
   module _ (before mid after : SinkView) (on : TookOn mid after) where
     -- the lines of a run's answers with those of its counts after them are a run with counts
     with_counts : (status : ℕ) (answers : List ℕ) → Answers before mid status answers → Counted before after status (answers ++ more)
-    with_counts status answers h = (h.0, h.1, (counts.spent.fills, answers, answered_on before mid after on tables tables' (question tables docs asked h.0) counts.spent.fills status answers h.2, ap (λ x. answers ++ x) same))
+    with_counts status answers h = (h.0, h.1, (counts.spent.fills, answers, answered_on before mid after on stores stores' (question stores p asked h.0) counts.spent.fills status answers h.2, ap (λ x. answers ++ x) same))
       where
-        same : more ≡ lines_of_counts (record { commands = length asked.steps.items; spent = record { fills = counts.spent.fills; pages = tables'.pages - tables.pages }; class = class_over asked.catalog (plan_value asked.plan).ops })
+        same : more ≡ lines_of_counts (record { commands = length asked.steps.items; spent = record { fills = counts.spent.fills; pages = stores'.tables.pages - stores.tables.pages }; class = class_over asked.catalog (plan_value asked.plan).ops })
         same =
             ap (λ n. lines_of_counts (record { commands = n; spent = counts.spent; class = counts.class })) are.commands
             ∙ ap (λ n. lines_of_counts (record { commands = length asked.steps.items; spent = record { fills = counts.spent.fills; pages = n }; class = counts.class })) are.pages
-            ∙ ap (λ k. lines_of_counts (record { commands = length asked.steps.items; spent = record { fills = counts.spent.fills; pages = tables'.pages - tables.pages }; class = k })) are.class
+            ∙ ap (λ k. lines_of_counts (record { commands = length asked.steps.items; spent = record { fills = counts.spent.fills; pages = stores'.tables.pages - stores.tables.pages }; class = k })) are.class
 
     -- answers with counts whose lines were cut short stop the command
     cut_counted : (status : ℕ) (all : List ℕ) (stop : Stop) → Counted before after status all → IsCut before after all stop → IsStop (Counted before after) before after stop

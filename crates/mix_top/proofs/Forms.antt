@@ -1,7 +1,7 @@
 -- The courses of the commands that differ in the form of what is written alone.
 use Rattle.std.proofs.Common.{◌≡◌, ◌⊎◌, inl, inr, ℕ, true, List, Result, OnOk, IfOk, IfErr, refl, sym, subst}
 use Rattle.mix_io.specs.Views.{FilesView, SinkView}
-use Rattle.mix_top.specs.Commands.{Command, asks_tables}
+use Rattle.mix_top.specs.Commands.{Command, asks_stores}
 use Rattle.mix_top.specs.Course.{IsCourse, Reads, Runs}
 use Rattle.mix_top.specs.FilesRead.{FileMayRead, MayRead, RunMayRead}
 use Rattle.mix_top.specs.Outside.{Outside}
@@ -56,7 +56,7 @@ run_may_read P files Executed file catalog script h = h
 run_may_read P files Looped file catalog script h = h
 
 -- a run asks tables in each form
-pub run_asks : (form : RunForm) (file catalog script : List ℕ) → asks_tables (run_command form file catalog script) ≡ true
+pub run_asks : (form : RunForm) (file catalog script : List ℕ) → asks_stores (run_command form file catalog script) ≡ true
 run_asks Answers file catalog script = refl
 run_asks Counts file catalog script = refl
 run_asks Executed file catalog script = refl

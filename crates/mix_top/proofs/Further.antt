@@ -6,7 +6,7 @@ use Rattle.mix_io.specs.Contents.{Appends, AppendsPrefix}
 use Rattle.mix_io.proofs.Written.{one_more}
 use Rattle.mix_script.specs.Allowed.{answer_lines}
 use Rattle.mix_script.specs.declared.answer.Answer.{Answer}
-use Rattle.table_keep.specs.Views.{TablesView}
+use Rattle.mix_reach.specs.Stores.{StoresView}
 use Rattle.xmas_read.specs.Results.{names_of_sources}
 use Rattle.mix_top.specs.Answered.{IsAnswered, IsFrugal, in_order}
 use Rattle.mix_top.specs.Commands.{Command, help, version, walk, read, plan, check, run, count, exec, loop, load, unknown}
@@ -37,12 +37,13 @@ module _ (before mid after : SinkView) (on : TookOn mid after) where
   }
 
   -- the answers of a run are those of that run after the sink took more lines
-  pub answered_on : (tables tables' : TablesView) (q : Question) (fills status : ℕ) (lines : List ℕ) → IsAnswered tables tables' q fills before mid status lines
-      → IsAnswered tables tables' q fills before after status lines
-  answered_on tables tables' q fills status lines h = record {
+  pub answered_on : (stores stores' : StoresView) (q : Question) (fills status : ℕ) (lines : List ℕ) → IsAnswered stores stores' q fills before mid status lines
+      → IsAnswered stores stores' q fills before after status lines
+  answered_on stores stores' q fills status lines h = record {
     answers = h.answers;
     allowed = h.allowed;
     counted = h.counted;
+    counted_far = h.counted_far;
     status_is = h.status_is;
     pages = h.pages;
     cost = λ e. frugal_on q fills h.answers (h.cost e);
@@ -59,13 +60,13 @@ module _ (before mid after : SinkView) (on : TookOn mid after) where
   course_on o o' (plan view catalog) status lines h = h
   course_on o o' (check text catalog) status lines h = h
   course_on o o' (run view catalog script) status lines (inl refused) = inl refused
-  course_on o o' (run view catalog script) status lines (inr h) = inr (h.0, h.1, (h.2.0, answered_on o.tables o'.tables h.0 h.2.0 status lines h.2.1))
+  course_on o o' (run view catalog script) status lines (inr h) = inr (h.0, h.1, (h.2.0, answered_on o.stores o'.stores h.0 h.2.0 status lines h.2.1))
   course_on o o' (count view catalog script) status lines (inl refused) = inl refused
-  course_on o o' (count view catalog script) status lines (inr h) = inr (h.0, h.1, (h.2.0, h.2.1, answered_on o.tables o'.tables h.0 h.2.0 status h.2.1 h.2.2, h.2.3))
+  course_on o o' (count view catalog script) status lines (inr h) = inr (h.0, h.1, (h.2.0, h.2.1, answered_on o.stores o'.stores h.0 h.2.0 status h.2.1 h.2.2, h.2.3))
   course_on o o' (exec text catalog script) status lines (inl refused) = inl refused
-  course_on o o' (exec text catalog script) status lines (inr h) = inr (h.0, h.1, (h.2.0, answered_on o.tables o'.tables h.0 h.2.0 status lines h.2.1))
+  course_on o o' (exec text catalog script) status lines (inr h) = inr (h.0, h.1, (h.2.0, answered_on o.stores o'.stores h.0 h.2.0 status lines h.2.1))
   course_on o o' (loop view catalog script) status lines (inl refused) = inl refused
-  course_on o o' (loop view catalog script) status lines (inr h) = inr (h.0, h.1, (h.2.0, answered_on o.tables o'.tables h.0 h.2.0 status lines h.2.1))
+  course_on o o' (loop view catalog script) status lines (inr h) = inr (h.0, h.1, (h.2.0, answered_on o.stores o'.stores h.0 h.2.0 status lines h.2.1))
   course_on o o' (load people) status lines h = h
   course_on o o' unknown status lines h = h
 

@@ -1,10 +1,11 @@
--- How the lines of a run over mounted documents end.
+-- How the lines of a run over sources end.
 use Rattle.std.proofs.Common.{◌≡◌, ◌∙◌, ◌+◌, ◌≤◌, IsTrue, inl, inr, ℕ, Bool, true, false, cond, List, [], ◌∷◌, ◌++◌, Result, Ok, Err, refl, ap, sym, subst, arith, length, take, take_all, append_assoc}
 use Rattle.mix_base.proofs.Lists.{append_nil, take_append}
 use Rattle.mix_io.specs.Views.{FilesView, SinkView}
 use Rattle.mix_io.specs.Contents.{Appends}
 use Rattle.mix_tree.specs.Forest.{LabelledTree}
-use Rattle.mix_mount.specs.Mounts.{CameFrom, Mounting, view_of}
+use Rattle.mix_reach.specs.Reach.{CameFrom, Reaching, view_of}
+use Rattle.mix_reach.specs.Stores.{stores_of}
 use Rattle.plan_core.specs.PlanMade.{plan_value}
 use Rattle.xmas_read.specs.Results.{names_of_sources}
 use Rattle.lazy_plan.specs.Bench.{BenchState, ops_of, documents, forward}
@@ -21,10 +22,9 @@ use Rattle.mix_session.specs.Walks.{IsDocument, plan_course}
 use Rattle.lxp_core.specs.View.{View}
 use Rattle.mix_top.specs.Answered.{IsAnswered, all_told, in_order}
 use Rattle.mix_top.specs.Ends.{TookPrefix}
-use Rattle.mix_top.specs.Mounting.{AreMounted}
 use Rattle.mix_top.specs.declared.asked.Asked.{Asked}
 use Rattle.mix_top.specs.Question.{Question, IsPlanDocument}
-use Rattle.mix_top.specs.Running.{IsLinesEnd, IsPlanOver, LinesOver, by_fills, documents_of, question}
+use Rattle.mix_top.specs.Running.{ArePlaced, IsLinesEnd, IsPlanOver, LinesOver, by_fills, documents_of, placed_of, question}
 use Rattle.mix_top.proofs.Answering.{Frugal, IsAnswering, IsManner, answering, prefix_of}
 use Rattle.mix_top.proofs.ReadTables.{plan_within}
 use Rattle.mix_top.specs.Stops.{IsDoneAlong, end_of, outcome_of, outcome_status}
@@ -57,11 +57,11 @@ in_order_is_manner q = record {
   more = λ answers more. lines_more (names_of_sources q.sources) answers more q.steps;
 }
 
-module _ (files : FilesView) (a b : Mounting) (came : CameFrom a b) (asked : Asked) (mounted : AreMounted files (plan_value asked.plan).ops asked.catalog a.docs)
+module _ (files : FilesView) (a b : Reaching) (came : CameFrom a b) (asked : Asked) (mounted : ArePlaced files (plan_value asked.plan).ops asked.catalog (placed_of a))
     (over : IsPlanOver asked.catalog (plan_value asked.plan)) (st : BenchState) (same : ops_of st ≡ (plan_value asked.plan).ops)
-    (docs_are : documents st ≡ documents_of a.tables a.docs) (ahead : IsTrue (forward st)) (t : LabelledTree)
-    (document_is : all_told a.tables (plan_value asked.plan).ops asked.catalog ≡ true → IsDocument st t) (unasked : a.fills ≡ 0) (few : b.tables.pages ≤ a.tables.pages + b.fills) (before after : SinkView)
-    (is_document : IsPlanDocument (documents_of a.tables a.docs) (plan_value asked.plan).ops t) where
+    (docs_are : documents st ≡ documents_of (stores_of a) (placed_of a)) (ahead : all_told (stores_of a) (plan_value asked.plan).ops asked.catalog ≡ true → IsTrue (forward st)) (t : LabelledTree)
+    (document_is : all_told (stores_of a) (plan_value asked.plan).ops asked.catalog ≡ true → IsDocument st t) (unasked : a.fills ≡ 0) (few : b.mounted.tables.pages ≤ a.mounted.tables.pages + b.fills) (before after : SinkView)
+    (is_document : IsPlanDocument (documents_of (stores_of a) (placed_of a)) (plan_value asked.plan).ops t) where
   -- the names of the sources of the catalog
   abbrev names : List (List ℕ)
   names = names_of_sources asked.catalog
@@ -70,9 +70,9 @@ module _ (files : FilesView) (a b : Mounting) (came : CameFrom a b) (asked : Ask
   abbrev steps : List Step
   steps = asked.steps.items
 
-  -- the question of the run: its script on the document, over what is mounted
+  -- the question of the run: its script on the document, over the sources
   abbrev q : Question
-  q = question a.tables a.docs asked t
+  q = question (stores_of a) (placed_of a) asked t
 
   -- answers that a run on the course of the plan gives
   abbrev Are : List Answer → Type 0
@@ -84,7 +84,7 @@ module _ (files : FilesView) (a b : Mounting) (came : CameFrom a b) (asked : Ask
 
   -- the lines that answer the script, by the fills that were asked
   abbrev Answers : SinkView → SinkView → ℕ → List ℕ → Type 0
-  Answers = LinesOver (by_fills b.fills) a.tables b.tables a.docs asked
+  Answers = LinesOver (by_fills b.fills) (stores_of a) (stores_of b) (placed_of a) asked
 
   -- the lines of the run, written in the order of the steps, answer the question
   run : IsAnswering (in_order q) a b asked.catalog (plan_value asked.plan).ops steps st t before after
@@ -127,9 +127,9 @@ module _ (files : FilesView) (a b : Mounting) (came : CameFrom a b) (asked : Ask
       (answer_lines names w.answers steps, (t, is_document, subst Is (outcome_is marked w.answers w.marks) (run.whole w.answers w.are (spent w.answers w.cost w.written) w.all)), w.written)
     where
       Is : ℕ → Type 0
-      Is n = IsAnswered a.tables b.tables q b.fills before after n (answer_lines names w.answers steps)
+      Is n = IsAnswered (stores_of a) (stores_of b) q b.fills before after n (answer_lines names w.answers steps)
 
-  -- the lines of a run over mounted documents came to their end, or were cut short
+  -- the lines of a run over sources came to their end, or were cut short
   pub lines_end : (r : Result Bool LinesFault) → Ends (plan_course st) (view_of a) (view_of b) names steps before after r → IsLinesEnd Answers before after (end_of r)
   lines_end (Ok marked) w = whole marked w
   lines_end (Err lines_fault.SinkFailed) w = (w.0, within w.1)

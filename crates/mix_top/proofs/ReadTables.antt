@@ -1,22 +1,21 @@
--- Tables among the sources that a plan's operators read.
+-- Sources that a plan's operators read, and whether their documents are told.
 use Rattle.std.proofs.Common.{◌≡◌, ◌+◌, ◌<◌, ◌||◌, not, ℕ, zero, suc, Bool, true, false, List, [], ◌∷◌, Some, None, refl, subst, arith, length, slice_get, eq-eqb}
 use Rattle.std.specs.List.{AllByRecursion, list_all, list_any}
 use Rattle.std.proofs.lemmas.Bool.{or_left, or_right}
 use Rattle.std.proofs.lemmas.Bool.Decides.{nat_tests}
 use Rattle.std.proofs.lemmas.Option.{same_Some, slice_get_within}
 use Rattle.mix_base.proofs.Choices.{and_both, and_parts}
-use Rattle.mix_catalog.specs.declared.source.SourceKind.{SourceKind}
-use Rattle.mix_catalog.specs.declared.source.SourceKind.TheVariants.{Bracket, Csv, Table}
 use Rattle.mix_catalog.specs.declared.source.SourceSpec.{SourceSpec}
-use Rattle.table_keep.specs.Views.{Declared, TablesView}
-use Rattle.table_wrap.specs.Document.{declared_in, is_table_of}
+use Rattle.mix_reach.specs.Stores.{StoresView}
+use Rattle.table_wrap.specs.Document.{declared_in}
 use Rattle.xmas_read.specs.Results.{names_of_sources}
 use Rattle.plan_core.specs.Plans.{Operator, PlanValue}
 use Rattle.plan_core.specs.Shapes.{Shape, one_source, visits_below, pairs_up, passes_on, no_events, shape_of, shape_at}
 use Rattle.plan_core.specs.Valid.{HasSource, ReadsSource}
 use Rattle.lazy_binding.specs.Cursors.{IsRead, source_number}
 use Rattle.lazy_binding.specs.World.{reads, shape_reads as passes}
-use Rattle.mix_top.specs.Answered.{is_table_told, told_from}
+use Rattle.mix_top.specs.Answered.{is_far_told, is_spec_told, is_table_told, told_from}
+use Rattle.mix_top.specs.Documents.{far_in}
 use Rattle.mix_top.specs.Running.{IsPlanOver}
 use Rattle.view_class.specs.Reads.{op_reads, reads_source, shape_reads}
 
@@ -75,39 +74,25 @@ read_below n (op ∷ ops) h s e =
 pub plan_within : (sources : List SourceSpec) (p : PlanValue) → IsPlanOver sources p → AllByRecursion (HasSource (length (names_of_sources sources))) p.ops
 plan_within sources p over = subst (λ (names : List (List ℕ)). AllByRecursion (HasSource (length names)) p.ops) over.names over.valid.sources
 
--- a source that is no table declares none
-pub declares_none : (kind : SourceKind) → is_table_of kind ≡ false → declared_in kind ≡ None
-declares_none (Bracket file deep) h = refl
-declares_none (Csv file columns) h = refl
-declares_none (Table file table key columns) h = cc
-
--- a source that declares none is no table
-pub is_no_table : (kind : SourceKind) → declared_in kind ≡ None → is_table_of kind ≡ false
-is_no_table (Bracket file deep) h = refl
-is_no_table (Csv file columns) h = refl
-is_no_table (Table file table key columns) h = cc
-
--- a source that declares a table is one
-pub is_table : (kind : SourceKind) (d : Declared) → declared_in kind ≡ Some d → is_table_of kind ≡ true
-is_table (Bracket file deep) d h = cc
-is_table (Csv file columns) d h = cc
-is_table (Table file table key columns) d h = refl
-
 -- what holds where something is read holds where it is
 read_told : (b c : Bool) → b ≡ true → not b || c ≡ true → c ≡ true
 read_told true c e h = h
 read_told false c e h = (let z : false ≡ true = e in cc)
 
--- where all tables that a plan reads are told, each is
-pub told_at : (tables : TablesView) (ops : List Operator) (n : ℕ) (sources : List SourceSpec) → told_from tables ops n sources ≡ true → (s : ℕ) (spec : SourceSpec) → slice_get sources s ≡ Some spec
-    → reads_source ops (n + s) ≡ true → is_table_told tables (declared_in spec.kind) ≡ true
-told_at tables ops n [] h s spec e read = absurd (let w = slice_get_within [] s spec e in omega (arith, w))
-told_at tables ops n (x ∷ xs) h zero spec e read =
-    let parts = and_parts (not (reads_source ops n) || is_table_told tables (declared_in x.kind)) (told_from tables ops (n + 1) xs) h in
+-- where all documents that a plan reads are told, each is
+pub spec_told_at : (stores : StoresView) (ops : List Operator) (n : ℕ) (sources : List SourceSpec) → told_from stores ops n sources ≡ true → (s : ℕ) (spec : SourceSpec) → slice_get sources s ≡ Some spec
+    → reads_source ops (n + s) ≡ true → is_spec_told stores spec ≡ true
+spec_told_at stores ops n [] h s spec e read = absurd (let w = slice_get_within [] s spec e in omega (arith, w))
+spec_told_at stores ops n (x ∷ xs) h zero spec e read =
+    let parts = and_parts (not (reads_source ops n) || is_spec_told stores x) (told_from stores ops (n + 1) xs) h in
     let place : n + 0 ≡ n = omega arith in
     let this : reads_source ops n ≡ true = subst (λ (k : ℕ). reads_source ops k ≡ true) place read in
-    subst (λ (y : SourceSpec). is_table_told tables (declared_in y.kind) ≡ true) (same_Some x spec e) (read_told (reads_source ops n) (is_table_told tables (declared_in x.kind)) this parts.0)
-told_at tables ops n (x ∷ xs) h (suc s) spec e read =
-    let parts = and_parts (not (reads_source ops n) || is_table_told tables (declared_in x.kind)) (told_from tables ops (n + 1) xs) h in
+    subst (λ (y : SourceSpec). is_spec_told stores y ≡ true) (same_Some x spec e) (read_told (reads_source ops n) (is_spec_told stores x) this parts.0)
+spec_told_at stores ops n (x ∷ xs) h (suc s) spec e read =
+    let parts = and_parts (not (reads_source ops n) || is_spec_told stores x) (told_from stores ops (n + 1) xs) h in
     let place : n + suc s ≡ n + 1 + s = omega arith in
-    told_at tables ops (n + 1) xs parts.1 s spec e (subst (λ (k : ℕ). reads_source ops k ≡ true) place read)
+    spec_told_at stores ops (n + 1) xs parts.1 s spec e (subst (λ (k : ℕ). reads_source ops k ≡ true) place read)
+
+-- where the document of a source is told, its rows are where it is a table, and its document where it is at another machine
+pub told_parts : (stores : StoresView) (spec : SourceSpec) → is_spec_told stores spec ≡ true → (is_table_told stores.tables (declared_in spec.kind) ≡ true) × (is_far_told stores.fars (far_in spec.kind) ≡ true)
+told_parts stores spec h = and_parts (is_table_told stores.tables (declared_in spec.kind)) (is_far_told stores.fars (far_in spec.kind)) h

@@ -1,4 +1,4 @@
--- What holds of a run over sources that stand in for mounted ones holds of a run over what is mounted.
+-- What holds of a run over sources that stand in for others holds of a run over these.
 use Rattle.std.proofs.Common.{◌≡◌, ◌+◌, ◌-◌, ◌^◌, ◌≤◌, inl, inr, ℕ, List, [], ◌∷◌, ◌++◌, Result, Ok, Err, Bool, sym, subst, arith}
 use Rattle.mix_io.specs.Views.{FilesView, SinkView}
 use Rattle.lxp_core.specs.View.{View}
@@ -6,22 +6,20 @@ use Rattle.mix_lines.specs.Lines.{Ends, EndsBetween, EndsBy, EndsWithin, IsLazy,
 use Rattle.mix_lines.specs.declared.fault.LinesFault.{LinesFault}
 use Rattle.mix_lines.specs.declared.fault.LinesFault.TheVariants as lines_fault
 use Rattle.mix_loop.specs.Loops.{StandIn}
-use Rattle.mix_mount.specs.Mounts.{AreFewPages, CameFrom, Mounting, view_of}
-use Rattle.mix_mount.specs.declared.mount.Mount.{Mount}
+use Rattle.mix_reach.specs.Reach.{AreFewPages, CameFrom, Reaching, view_of}
+use Rattle.mix_reach.specs.Stores.{StoresView, stores_of}
 use Rattle.mix_script.specs.Allowed.{faults_of}
 use Rattle.mix_script.specs.declared.answer.Answer.{Answer}
 use Rattle.mix_script.specs.declared.step.Step.{Step}
 use Rattle.mix_session.specs.Meaning.{Course}
 use Rattle.plan_core.specs.PlanMade.{plan_value}
-use Rattle.table_keep.specs.Views.{TablesView}
-use Rattle.mix_top.specs.Mounting.{AreMounted}
-use Rattle.mix_top.specs.Running.{IsEndOver, IsLinesEnd, LinesOver, by_fills}
+use Rattle.mix_top.specs.Running.{ArePlaced, IsEndOver, IsLinesEnd, LinesOver, Placed, by_fills, placed_of}
 use Rattle.mix_top.specs.declared.asked.Asked.{Asked}
 use Rattle.mix_top.specs.declared.refusal.Outcome.{Outcome}
 use Rattle.mix_top.proofs.Answering.{tells_itself}
 
--- mounted sources stand in for themselves
-pub stands_itself : (a b : Mounting) → CameFrom a b → StandIn (view_of a) (view_of b) a b
+-- sources stand in for themselves
+pub stands_itself : (a b : Reaching) → CameFrom a b → StandIn (view_of a) (view_of b) a b
 stands_itself a b came = record { tells = tells_itself a; came = came; fills = omega arith; faults = λ s times h. h }
 
 module _ (Are Are' Cost Cost' : List Answer → Type 0) (are : (answers : List Answer) → Are answers → Are' answers) (cost : (answers : List Answer) → Cost answers → Cost' answers)
@@ -41,10 +39,10 @@ module _ (Are Are' Cost Cost' : List Answer → Type 0) (are : (answers : List A
   ends_weaker (Err lines_fault.OutOfMemory) (inl w) = inl (between w)
   ends_weaker (Err lines_fault.OutOfMemory) (inr w) = inr (within w)
 
--- lines that ended over sources that stood in for mounted ones ended so over what is mounted
-pub ends_mounted : {W : Type 0} (c : Course W) (old new : View) (a b : Mounting) → StandIn old new a b → (names : List (List ℕ)) (steps : List Step) (before after : SinkView) (r : Result Bool LinesFault)
+-- lines that ended over sources that stood in for others ended so over these
+pub ends_stood : {W : Type 0} (c : Course W) (old new : View) (a b : Reaching) → StandIn old new a b → (names : List (List ℕ)) (steps : List Step) (before after : SinkView) (r : Result Bool LinesFault)
     → Ends c old new names steps before after r → Ends c (view_of a) (view_of b) names steps before after r
-ends_mounted c old new a b stand names steps before after r h =
+ends_stood c old new a b stand names steps before after r h =
     ends_weaker (IsRun c old.faults new.faults steps) (IsRun c (view_of a).faults (view_of b).faults steps) (IsLazy c old.fills new.fills steps) (IsLazy c (view_of a).fills (view_of b).fills steps) are cost
     names steps before after r h
   where
@@ -57,20 +55,20 @@ ends_mounted c old new a b stand names steps before after r h =
       tree = λ tolls t is. (let few = lazy.tree tolls t is in omega (arith, few, stand.fills));
     }
 
-module _ (old new : View) (asked : Asked) (before after : SinkView) (end : Result Outcome LinesFault) (files : FilesView) (a b : Mounting) (over : IsEndOver old new asked before after end)
-    (mounted : AreMounted files (plan_value asked.plan).ops asked.catalog a.docs) (unasked : a.fills ≡ 0) (stand : StandIn old new a b) (most : b.tables.pages ≤ 2 ^ 64 - 1) where
+module _ (old new : View) (asked : Asked) (before after : SinkView) (end : Result Outcome LinesFault) (files : FilesView) (a b : Reaching) (over : IsEndOver old new asked before after end)
+    (placed : ArePlaced files (plan_value asked.plan).ops asked.catalog (placed_of a)) (unasked : a.fills ≡ 0) (stand : StandIn old new a b) (most : b.mounted.tables.pages ≤ 2 ^ 64 - 1) where
   -- no more pages were asked than fills
-  few : AreFewPages a b → b.tables.pages ≤ a.tables.pages + b.fills
+  few : AreFewPages a b → b.mounted.tables.pages ≤ a.mounted.tables.pages + b.fills
   few (inl h) = omega (arith, h, unasked)
   few (inr h) = omega (arith, h, most)
 
-  -- the lines of a run over sources that stood in for mounted ones ended as over these, whatever they are called
-  pub mounted_end : (docs : List Mount) (tables tables' : TablesView) (fills : ℕ) (end' : Result Outcome LinesFault) → a.docs ≡ docs → a.tables ≡ tables → b.tables ≡ tables' → fills ≡ b.fills → end' ≡ end
-      → IsLinesEnd (LinesOver (by_fills fills) tables tables' docs asked) before after end'
-  mounted_end docs tables tables' fills end' d t t' f e =
-      subst (λ (x : List Mount). IsLinesEnd (LinesOver (by_fills fills) tables tables' x asked) before after end') d
-      (subst (λ (x : TablesView). IsLinesEnd (LinesOver (by_fills fills) x tables' a.docs asked) before after end') t
-      (subst (λ (x : TablesView). IsLinesEnd (LinesOver (by_fills fills) a.tables x a.docs asked) before after end') t'
-      (subst (λ (x : ℕ). IsLinesEnd (LinesOver (by_fills x) a.tables b.tables a.docs asked) before after end') (sym f)
-      (subst (λ (x : Result Outcome LinesFault). IsLinesEnd (LinesOver (by_fills b.fills) a.tables b.tables a.docs asked) before after x) (sym e)
-      (over files a b mounted unasked stand (few stand.came.pages))))))
+  -- the lines of a run over sources that stood in for others ended as over these, whatever they are called
+  pub reached_end : (place : Placed) (stores stores' : StoresView) (fills : ℕ) (end' : Result Outcome LinesFault) → placed_of a ≡ place → stores_of a ≡ stores → stores_of b ≡ stores' → fills ≡ b.fills → end' ≡ end
+      → IsLinesEnd (LinesOver (by_fills fills) stores stores' place asked) before after end'
+  reached_end place stores stores' fills end' d t t' f e =
+      subst (λ (x : Placed). IsLinesEnd (LinesOver (by_fills fills) stores stores' x asked) before after end') d
+      (subst (λ (x : StoresView). IsLinesEnd (LinesOver (by_fills fills) x stores' (placed_of a) asked) before after end') t
+      (subst (λ (x : StoresView). IsLinesEnd (LinesOver (by_fills fills) (stores_of a) x (placed_of a) asked) before after end') t'
+      (subst (λ (x : ℕ). IsLinesEnd (LinesOver (by_fills x) (stores_of a) (stores_of b) (placed_of a) asked) before after end') (sym f)
+      (subst (λ (x : Result Outcome LinesFault). IsLinesEnd (LinesOver (by_fills b.fills) (stores_of a) (stores_of b) (placed_of a) asked) before after x) (sym e)
+      (over files a b placed unasked stand (few stand.came.pages))))))

@@ -1,11 +1,13 @@
--- Where a plan reads no table, the lines are the transcript without marks.
-use Rattle.std.proofs.Common.{◌≡◌, ◌∙◌, ◌+◌, ◌||◌, not, ℕ, suc, Bool, true, false, cond, is_some, List, [], ◌∷◌, ◌++◌, Option, Some, None, refl, ap, subst, arith, slice_get}
+-- Where a plan reads no table and no source of another machine, the lines are the transcript without marks.
+use Rattle.std.proofs.Common.{◌≡◌, ◌∙◌, ◌+◌, ◌||◌, inl, inr, not, ℕ, suc, Bool, true, false, cond, is_some, List, [], ◌∷◌, ◌++◌, Option, Some, None, refl, ap, subst, arith, slice_get}
 use Rattle.std.specs.Prelude.{option_and_then}
 use Rattle.mix_base.proofs.Choices.{and_both}
 use Rattle.mix_tree.specs.Forest.{LabelledTree, alone}
 use Rattle.mix_tree.specs.Place.{has_place, tree_at}
 use Rattle.mix_catalog.specs.declared.source.SourceSpec.{SourceSpec}
-use Rattle.table_keep.specs.Views.{Declared, TablesView}
+use Rattle.far_keep.specs.declared.far_source.FarSource.{FarSource}
+use Rattle.mix_reach.specs.Stores.{StoresView}
+use Rattle.table_keep.specs.Views.{Declared}
 use Rattle.table_wrap.specs.Document.{declared_in}
 use Rattle.mix_script.specs.Names.{no_names}
 use Rattle.mix_script.specs.Answers.{line_of}
@@ -19,7 +21,9 @@ use Rattle.mix_script.specs.declared.answer.Answer.TheVariants as answer
 use Rattle.mix_script.proofs.Answering.{unmarked}
 use Rattle.plan_core.specs.Plans.{Operator}
 use Rattle.xmas_read.specs.Results.{names_of_sources}
-use Rattle.mix_top.specs.Answered.{IsTableOf, RunsWithoutTablesAreUnmarked, is_table_told, all_told, told_from}
+use Rattle.mix_top.specs.Answered.{MayFail, RunsWithoutTablesAreUnmarked, all_told, is_far_told, is_spec_told, is_table_told, told_from}
+use Rattle.mix_top.specs.Documents.{far_in}
+use Rattle.mix_top.proofs.SourceKinds.{each_is_one, file_is_apart}
 use Rattle.view_class.specs.Reads.{reads_source}
 
 -- an answer that is no fault is no fault either where a name may hold no place
@@ -84,37 +88,42 @@ module _ (t : LabelledTree) (sources : List (List ℕ)) where
       ∙ ap (λ l. l ++ lines_from t sources now.1 (marks_of answers) steps) (same_line sources step.client now.0 (quiet t names step.client step.act))
       ∙ ap (λ r. line_of [] step.client now.0 ++ r) (unmarked_transcript now.1 answers steps both.1)
 
--- what isn't read, or is no table, has nothing untold
-told_head : (tables : TablesView) (b : Bool) (o : Option Declared) → (b ≡ true → o ≡ None) → not b || is_table_told tables o ≡ true
-told_head tables true o h = ap (λ (x : Option Declared). is_table_told tables x) (h refl)
-told_head tables false o h = refl
+-- what isn't read, or is no table and at no other machine, has nothing untold
+told_head : (stores : StoresView) (spec : SourceSpec) (b : Bool) → (b ≡ true → (declared_in spec.kind ≡ None) × (far_in spec.kind ≡ None)) → not b || is_spec_told stores spec ≡ true
+told_head stores spec true h =
+    let is = h refl in
+    and_both (is_table_told stores.tables (declared_in spec.kind)) (is_far_told stores.fars (far_in spec.kind))
+    (ap (λ (x : Option Declared). is_table_told stores.tables x) is.0) (ap (λ (x : Option FarSource). is_far_told stores.fars x) is.1)
+told_head stores spec false h = refl
 
--- where no source that the plan reads is a table, there is nothing that isn't told
-nothing_untold : (tables : TablesView) (ops : List Operator) (n : ℕ) (sources : List SourceSpec)
-    → ((s : ℕ) (spec : SourceSpec) → slice_get sources s ≡ Some spec → reads_source ops (n + s) ≡ true → declared_in spec.kind ≡ None) → told_from tables ops n sources ≡ true
-nothing_untold tables ops n [] h = refl
-nothing_untold tables ops n (x ∷ xs) h =
+-- where no source that the plan reads is a table or at another machine, there is nothing that isn't told
+nothing_untold : (stores : StoresView) (ops : List Operator) (n : ℕ) (sources : List SourceSpec)
+    → ((s : ℕ) (spec : SourceSpec) → slice_get sources s ≡ Some spec → reads_source ops (n + s) ≡ true → (declared_in spec.kind ≡ None) × (far_in spec.kind ≡ None)) → told_from stores ops n sources ≡ true
+nothing_untold stores ops n [] h = refl
+nothing_untold stores ops n (x ∷ xs) h =
     let place : n ≡ n + 0 = omega arith in
-    and_both (not (reads_source ops n) || is_table_told tables (declared_in x.kind)) (told_from tables ops (n + 1) xs)
-    (told_head tables (reads_source ops n) (declared_in x.kind) (λ read. h 0 x refl (subst (λ (k : ℕ). reads_source ops k ≡ true) place read)))
-    (nothing_untold tables ops (n + 1) xs
+    and_both (not (reads_source ops n) || is_spec_told stores x) (told_from stores ops (n + 1) xs)
+    (told_head stores x (reads_source ops n) (λ read. h 0 x refl (subst (λ (k : ℕ). reads_source ops k ≡ true) place read)))
+    (nothing_untold stores ops (n + 1) xs
     (λ s spec at read. h (suc s) spec at (let next : n + 1 + s ≡ n + suc s = omega arith in subst (λ (k : ℕ). reads_source ops k ≡ true) next read)))
 
--- a source that the plan reads declares no table, where the plan reads none
-declares_none : (ops : List Operator) (sources : List SourceSpec) → ((s : ℕ) → IsTableOf ops sources s → ⊥) → (s : ℕ) (spec : SourceSpec) → slice_get sources s ≡ Some spec → reads_source ops (0 + s) ≡ true
-    → declared_in spec.kind ≡ None
-declares_none ops sources none s spec at read =
+-- a source that the plan reads is no table and at no other machine, where no source that it reads may fail
+is_file : (ops : List Operator) (sources : List SourceSpec) → ((s : ℕ) → MayFail ops sources s → ⊥) → (s : ℕ) (spec : SourceSpec) → slice_get sources s ≡ Some spec → reads_source ops (0 + s) ≡ true
+    → (declared_in spec.kind ≡ None) × (far_in spec.kind ≡ None)
+is_file ops sources none s spec at read =
     let place : 0 + s ≡ s = omega arith in
-    elim (declared_in spec.kind) as (λ o. declared_in spec.kind ≡ o → o ≡ None) [
-      | None ↦ λ e. refl
-      | Some d ↦ λ e. absurd (none s (d, record { spec = spec; there = at; read = subst (λ (k : ℕ). reads_source ops k ≡ true) place read; declares = e }))
-    ] refl
+    let here = subst (λ (k : ℕ). reads_source ops k ≡ true) place read in
+    elim (each_is_one spec.kind) as (λ _. (declared_in spec.kind ≡ None) × (far_in spec.kind ≡ None)) [
+      | inl e ↦ file_is_apart spec.kind e
+      | inr (inl found) ↦ absurd (none s (inl (found.0, record { spec = spec; there = at; read = here; declares = found.1 })))
+      | inr (inr found) ↦ absurd (none s (inr (found.0, record { spec = spec; there = at; read = here; declares = found.1 })))
+    ]
 
--- a run of a plan that reads no table
+-- a run of a plan that reads no table and no source of another machine
 pub without_tables : RunsWithoutTablesAreUnmarked
 without_tables before after q fills sink sink' status lines none is =
-    let faultless = unmarked false (IsTableOf q.ops q.sources) no_names is.answers q.steps is.allowed (λ s may. absurd (none s may)) in
-    let told : all_told before q.ops q.sources ≡ true = nothing_untold before q.ops 0 q.sources (declares_none q.ops q.sources none) in (
+    let faultless = unmarked false (MayFail q.ops q.sources) no_names is.answers q.steps is.allowed (λ s may. absurd (none s may)) in
+    let told : all_told before q.ops q.sources ≡ true = nothing_untold before q.ops 0 q.sources (is_file q.ops q.sources none) in (
       is.status_is ∙ ap (λ b. cond b 1 0) faultless,
       (is.told told).1 ∙ unmarked_transcript q.tree (names_of_sources q.sources) no_names is.answers q.steps faultless,
     )

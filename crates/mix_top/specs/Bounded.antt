@@ -21,21 +21,21 @@ use Rattle.mix_top.specs.Question.{Question}
 abbrev pub AreDeclared : TablesView → List Operator → List SourceSpec → Type 0
 AreDeclared tables ops sources = (s : ℕ) (d : Declared) → IsTable ops sources s d → IfSome (tables.told d) (AreRows d.columns)
 
--- the class of what is asked is bounded by a number, over documents that its files give and told tables with values as declared
+-- the class of what is asked is bounded by a number, over documents that are told: those of its files, of tables with values as declared, and of other machines
 pub record IsBoundedBy (before : Outside) (q : Question) (most : ℕ) : Type 0 where
   pub documents : AreDocuments before q.ops q.sources q.docs
-  pub told : all_told before.tables q.ops q.sources ≡ true
-  pub declared : AreDeclared before.tables q.ops q.sources
+  pub told : all_told before.stores q.ops q.sources ≡ true
+  pub declared : AreDeclared before.stores.tables q.ops q.sources
   pub class : class_over q.sources q.ops ≡ Bounded most
 
 -- where the class of a valid plan is bounded, a step down or right from each place of its document costs at most the constant, over all documents that
--- its files give and all told tables with values as declared
+-- its files give, all told tables with values as declared, and all told documents of other machines
 abbrev pub BoundedPlans : Type 0
 BoundedPlans = (before : Outside) (p : PlanValue) (q : Question) (most : ℕ) → IsValid p → q.ops ≡ p.ops → IsBoundedBy before q most
     → (way : Way) (place : List ℕ) → place_toll q.docs q.ops way place ≤ most
 
 -- where the class of a view is bounded, a step down or right from each place of its document costs at most the constant, over all documents that its
--- files give and all told tables with values as declared
+-- files give, all told tables with values as declared, and all told documents of other machines
 abbrev pub BoundedViews : Type 0
 BoundedViews = (before : Outside) (v : RuleValue) (q : Question) (most : ℕ) → IsAccepted (length (names_of_sources q.sources)) v → q.ops ≡ operators_for v
     → IsBoundedBy before q most → (way : Way) (place : List ℕ) → place_toll q.docs q.ops way place ≤ most

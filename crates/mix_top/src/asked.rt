@@ -2,20 +2,22 @@
 ghost use Rattle.std.specs.Prelude.{◌≡◌, ◌≤◌, ◌-◌, ◌^◌, length};
 ghost use Rattle.mix_io.specs.Views.{FilesView, SinkView};
 ghost use Rattle.plan_core.specs.PlanMade.{plan_value};
-ghost use Rattle.mix_top.specs.Mounting.{AreMounted};
-ghost use Rattle.mix_mount.specs.Mounts.{fills_of, tables_of};
-ghost use Rattle.table_keep.specs.Views.{KeepsTables, TablesView};
-ghost use Rattle.mix_top.specs.Running.{IsEndOver, IsLinesEnd, IsPlanOver, LinesOver, by_fills};
+ghost use Rattle.mix_reach.specs.Reach.{reaching_in};
+ghost use Rattle.mix_reach.specs.Stores.{KeepsStores, StoresView, stores_in, stores_of};
+ghost use Rattle.table_keep.specs.Views.{TablesView};
+ghost use Rattle.mix_top.specs.Running.{ArePlaced, IsEndOver, IsLinesEnd, IsPlanOver, LinesOver, by_fills, placed};
 ghost use Rattle.mix_top.specs.Stops.{end_of, outcome_of};
 
 use crate::reading::source_names;
 use crate::refusal::Outcome;
+use far_keep::Fars;
 use lazy_value::{Mediator, valid_plans_have_documents};
 use lxp_core::Sources;
 use mix_catalog::Catalog;
 use mix_io::Sink;
 use mix_lines::{LinesFault, run_lines};
 use mix_mount::{Mount, Mounted};
+use mix_reach::{Reached, Site, Stores};
 use mix_script::Step;
 use plan_core::Plan;
 use std::alloc::Global;
@@ -29,11 +31,12 @@ pub struct Asked {
     pub steps: Vec<Step>,
 }
 
-/// What a run needs: what is asked, and the documents of the sources that the plan reads.
+/// What a run needs: what is asked, the documents of the sources that the plan reads, and where each source is.
 #[derive(Drop)]
 pub struct Ready {
     pub asked: Asked,
     pub docs: Vec<Mount>,
+    pub sites: Vec<Site>,
 }
 
 /// What the steps of a run asked of its sources: how many fills, and by how much the count of pages of tables rose.
@@ -43,12 +46,12 @@ pub struct Spent {
     pub pages: u64,
 }
 
-/// How the lines of a run ended, what its steps asked, and the tables.
+/// How the lines of a run ended, what its steps asked, and the stores.
 #[derive(Drop)]
-pub struct Answered<T> {
+pub struct Answered<T, R> {
     pub end: Result<Outcome, LinesFault>,
     pub spent: Spent,
-    pub tables: T,
+    pub stores: Stores<T, R>,
 }
 
 /// The outcome of a run whose lines came to their end, by whether one of them is a fault line.
@@ -72,8 +75,8 @@ fn end_of(end: Result<bool, LinesFault>) -> Result<Outcome, LinesFault>
     }
 }
 
-/// Answers the steps of a run on the document of its plan over sources, each line by one write. Where these stand in for mounted ones, the lines
-/// are those of a run over what is mounted.
+/// Answers the steps of a run on the document of its plan over sources, each line by one write. Where these stand in for sources that are reached, the
+/// lines are those of a run over these.
 pub fn answer_over<S: Sources, K: Sink>(
     alloc: Global,
     asked: Asked,
@@ -97,47 +100,50 @@ pub fn answer_over<S: Sources, K: Sink>(
     end_of(run_lines(alloc, sources, mediator, &steps, &names, out))
 }
 
-/// What a run over mounted sources came to whose lines ended so, where this many pages of tables were asked before it. The tables are handed back.
-pub fn hand_back<T: Tables>(
+/// What a run over sources came to whose lines ended so, where this many pages of tables were asked before it. The stores are handed back.
+pub fn hand_back<T: Tables, R: Fars>(
     end: Result<Outcome, LinesFault>,
-    sources: Mounted<T>,
+    sources: Reached<T, R>,
     before: u64,
-) -> Answered<T>
-    requires earlier { before ≤ (T.view (tables_of sources)).pages }
+) -> Answered<T, R>
+    requires earlier { before ≤ (reaching_in T.view R.view sources).mounted.tables.pages }
     ensures end { result.end ≡ end }
-    ensures tables { result.tables ≡ tables_of sources }
-    ensures fills { result.spent.fills ≡ fills_of sources }
-    ensures pages { result.spent.pages ≡ (T.view result.tables).pages - before }
-    ensures most { (T.view (tables_of sources)).pages ≤ 2 ^ 64 - 1 }
+    ensures stores { stores_in T.view R.view result.stores ≡ stores_of (reaching_in T.view R.view sources) }
+    ensures fills { result.spent.fills ≡ sources.fills }
+    ensures pages { result.spent.pages ≡ (T.view result.stores.tables).pages - before }
+    ensures most { (reaching_in T.view R.view sources).mounted.tables.pages ≤ 2 ^ 64 - 1 }
 {
     let fills = sources.fills();
-    let tables = sources.into_tables();
+    let (mounted, fars) = sources.into_parts();
+    let tables = mounted.into_tables();
     let now = tables.pages();
     prove!(now <= u64::MAX);
     let pages = now - before;
     let spent = Spent { fills, pages };
-    Answered { end, spent, tables }
+    let stores = Stores { tables, fars };
+    Answered { end, spent, stores }
 }
 
-/// Answers the steps of a run on the document of its plan, over mounted documents and tables, which are handed back, each line by one write.
-pub fn answer<T: Tables, K: Sink>(
+/// Answers the steps of a run on the document of its plan, over mounted documents and stores, which are handed back, each line by one write.
+pub fn answer<T: Tables, R: Fars, K: Sink>(
     alloc: Global,
-    asked: Asked,
-    docs: Vec<Mount>,
-    tables: T,
+    ready: Ready,
+    stores: Stores<T, R>,
     out: &mut K,
-) -> Answered<T>
-    requires over { IsPlanOver asked.catalog (plan_value asked.plan) }
-    requires mounted { (files : FilesView) × AreMounted files (plan_value asked.plan).ops asked.catalog docs.items }
-    requires few { length docs.items ≤ 32 }
-    ensures keeps { KeepsTables (T.view tables) (T.view result.tables) }
-    ensures end { IsLinesEnd (LinesOver (by_fills result.spent.fills) (T.view tables) (T.view result.tables) docs.items asked)
-        (K.view out.old) (K.view out.new) result.end }
-    ensures pages { result.spent.pages ≡ (T.view result.tables).pages - (T.view tables).pages }
+) -> Answered<T, R>
+    requires over { IsPlanOver ready.asked.catalog (plan_value ready.asked.plan) }
+    requires placed { let asked = ready.asked in (files : FilesView) × ArePlaced files (plan_value asked.plan).ops asked.catalog (placed ready) }
+    requires few { length ready.docs.items ≤ 32 }
+    ensures keeps { KeepsStores (stores_in T.view R.view stores) (stores_in T.view R.view result.stores) }
+    ensures end { let old = stores_in T.view R.view stores in let new = stores_in T.view R.view result.stores in
+        IsLinesEnd (LinesOver (by_fills result.spent.fills) old new (placed ready) ready.asked) (K.view out.old) (K.view out.new) result.end }
+    ensures pages { result.spent.pages ≡ (T.view result.stores.tables).pages - (T.view stores.tables).pages }
     ensures count { (K.view out.old).faults ≤ (K.view out.new).faults }
 {
-    let before = tables.pages();
-    let mut sources = Mounted::new(docs, tables);
+    let before = stores.tables.pages();
+    let Ready { asked, docs, sites } = ready;
+    let Stores { tables, fars } = stores;
+    let mut sources = Reached::new(Mounted::new(docs, tables), sites, fars);
     let end = answer_over(alloc, asked, &mut sources, out);
     hand_back(end, sources, before)
 }

@@ -1,21 +1,22 @@
 // What the answers to the steps of a run cost.
 ghost use Rattle.std.specs.Prelude.{◌≡◌, ◌≤◌, List, ℕ, length, IfOk, IfErr, string_bytes};
 ghost use Rattle.mix_io.specs.Views.{FilesView, SinkView};
-ghost use Rattle.table_keep.specs.Views.{KeepsTables, TablesView};
+ghost use Rattle.mix_reach.specs.Stores.{KeepsStores, StoresView, stores_in};
 ghost use Rattle.plan_core.specs.PlanMade.{plan_value};
 ghost use Rattle.mix_top.specs.Counting.{IsCounted, IsCountStop, lines_of_counts};
 ghost use Rattle.mix_top.specs.Counts.{number_lines};
 ghost use Rattle.mix_top.specs.Course.{lines_of_count};
-ghost use Rattle.mix_top.specs.Mounting.{AreMounted};
-ghost use Rattle.mix_top.specs.Running.{IsPlanOver, LinesOver};
+ghost use Rattle.mix_top.specs.Running.{ArePlaced, IsPlanOver, LinesOver, placed};
 ghost use Rattle.mix_top.specs.Stops.{IsDoneAlong, IsStopAlong};
 
 use crate::asked::{Ready, Spent, answer};
 use crate::refusal::{Outcome, Stop};
 use crate::writing::write_lines;
 use browse_class::Class;
+use far_keep::Fars;
 use mix_io::Sink;
 use mix_lines::LinesFault;
+use mix_reach::Stores;
 use std::alloc::{AllocError, Global};
 use table_keep::Tables;
 use view_class::{class_line, class_over};
@@ -63,30 +64,29 @@ fn write_counts<K: Sink>(
     Ok(outcome)
 }
 
-/// Answers the steps of a run whose files were all accepted, and writes what that cost. The tables are handed back.
-pub fn count_ready<T: Tables, K: Sink>(
+/// Answers the steps of a run whose files were all accepted, and writes what that cost. The stores are handed back.
+pub fn count_ready<T: Tables, R: Fars, K: Sink>(
     alloc: Global,
     ready: Ready,
-    tables: T,
+    stores: Stores<T, R>,
     out: &mut K,
-) -> (Result<Outcome, Stop>, T)
+) -> (Result<Outcome, Stop>, Stores<T, R>)
     requires over { IsPlanOver ready.asked.catalog (plan_value ready.asked.plan) }
-    requires mounted { (files : FilesView) × AreMounted files (plan_value ready.asked.plan).ops ready.asked.catalog ready.docs.items }
+    requires placed { let asked = ready.asked in (files : FilesView) × ArePlaced files (plan_value asked.plan).ops asked.catalog (placed ready) }
     requires few { length ready.docs.items ≤ 32 }
-    ensures keeps { KeepsTables (T.view tables) (T.view result.1) }
-    ensures done { IfOk result.0 (IsDoneAlong (LinesOver lines_of_count (T.view tables) (T.view result.1) ready.docs.items ready.asked)
-        (K.view out.old) (K.view out.new)) }
-    ensures stop { IfErr result.0 (IsStopAlong (LinesOver lines_of_count (T.view tables) (T.view result.1) ready.docs.items ready.asked)
-        (K.view out.old) (K.view out.new)) }
+    ensures keeps { KeepsStores (stores_in T.view R.view stores) (stores_in T.view R.view result.1) }
+    ensures done { let old = stores_in T.view R.view stores in let new = stores_in T.view R.view result.1 in
+        IfOk result.0 (IsDoneAlong (LinesOver lines_of_count old new (placed ready) ready.asked) (K.view out.old) (K.view out.new)) }
+    ensures stop { let old = stores_in T.view R.view stores in let new = stores_in T.view R.view result.1 in
+        IfErr result.0 (IsStopAlong (LinesOver lines_of_count old new (placed ready) ready.asked) (K.view out.old) (K.view out.new)) }
     ensures count { (K.view out.old).faults ≤ (K.view out.new).faults }
 {
-    let Ready { asked, docs } = ready;
-    let commands = asked.steps.as_slice().len() as u64;
-    let class = match class_over(alloc, &asked.catalog, &asked.plan) {
+    let commands = ready.asked.steps.as_slice().len() as u64;
+    let class = match class_over(alloc, &ready.asked.catalog, &ready.asked.plan) {
         Ok(class) => class,
-        Err(_) => return (Err(Stop::OutOfMemory), tables),
+        Err(_) => return (Err(Stop::OutOfMemory), stores),
     };
-    let answered = answer(alloc, asked, docs, tables, out);
+    let answered = answer(alloc, ready, stores, out);
     let counts = Counts {
         commands,
         spent: answered.spent,
@@ -94,6 +94,6 @@ pub fn count_ready<T: Tables, K: Sink>(
     };
     (
         write_counts(alloc, answered.end, &counts, out),
-        answered.tables,
+        answered.stores,
     )
 }

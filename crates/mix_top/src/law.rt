@@ -7,7 +7,7 @@ use plan_make::plan_is_valid;
 use plan_rewrite::rewriting_keeps_validity;
 use view_class::{sources_are_laid, unread_sources_dont_matter};
 
-/// Where a plan reads no table, the lines of a run are the transcript without marks, and the status is 0.
+/// Where a plan reads no table and no source of another machine, the lines of a run are the transcript without marks, and the status is 0.
 pub fn runs_without_tables_are_unmarked()
     ensures { RunsWithoutTablesAreUnmarked }
 {}

@@ -2,38 +2,41 @@
 ghost use Rattle.std.specs.Prelude.{◌≡◌, ◌≤◌, ◌-◌, length};
 ghost use Rattle.mix_io.specs.Views.{FilesView, SinkView};
 ghost use Rattle.plan_core.specs.PlanMade.{plan_value};
-ghost use Rattle.mix_top.specs.Mounting.{AreMounted};
-ghost use Rattle.table_keep.specs.Views.{KeepsTables, TablesView};
-ghost use Rattle.mix_top.specs.Running.{IsLinesEnd, IsPlanOver, LinesOver, by_fills};
+ghost use Rattle.mix_reach.specs.Stores.{KeepsStores, StoresView, stores_in};
+ghost use Rattle.table_keep.specs.Views.{TablesView};
+ghost use Rattle.mix_top.specs.Running.{ArePlaced, IsLinesEnd, IsPlanOver, LinesOver, by_fills, placed};
 
-use crate::asked::{Answered, Asked, answer_over, hand_back};
+use crate::asked::{Answered, Ready, answer_over, hand_back};
+use far_keep::Fars;
 use mix_io::Sink;
 use mix_lines::LinesFault;
 use mix_loop::{close_loop, open_loop};
-use mix_mount::{Mount, Mounted};
+use mix_mount::Mounted;
+use mix_reach::{Reached, Stores};
 use std::alloc::Global;
 use table_keep::Tables;
 
-/// Answers the steps of a run as `answer` does, but that all that is read of the mounted documents goes over a link in memory, as the bytes of
+/// Answers the steps of a run as `answer` does, but that all that is read of the sources goes over a link in memory, as the bytes of
 /// requests and replies (docs/FORMATS.md, "Commands").
-pub fn answer_looped<T: Tables, K: Sink>(
+pub fn answer_looped<T: Tables, R: Fars, K: Sink>(
     alloc: Global,
-    asked: Asked,
-    docs: Vec<Mount>,
-    tables: T,
+    ready: Ready,
+    stores: Stores<T, R>,
     out: &mut K,
-) -> Answered<T>
-    requires over { IsPlanOver asked.catalog (plan_value asked.plan) }
-    requires mounted { (files : FilesView) × AreMounted files (plan_value asked.plan).ops asked.catalog docs.items }
-    requires few { length docs.items ≤ 32 }
-    ensures keeps { KeepsTables (T.view tables) (T.view result.tables) }
-    ensures end { IsLinesEnd (LinesOver (by_fills result.spent.fills) (T.view tables) (T.view result.tables) docs.items asked)
-        (K.view out.old) (K.view out.new) result.end }
-    ensures pages { result.spent.pages ≡ (T.view result.tables).pages - (T.view tables).pages }
+) -> Answered<T, R>
+    requires over { IsPlanOver ready.asked.catalog (plan_value ready.asked.plan) }
+    requires placed { let asked = ready.asked in (files : FilesView) × ArePlaced files (plan_value asked.plan).ops asked.catalog (placed ready) }
+    requires few { length ready.docs.items ≤ 32 }
+    ensures keeps { KeepsStores (stores_in T.view R.view stores) (stores_in T.view R.view result.stores) }
+    ensures end { let old = stores_in T.view R.view stores in let new = stores_in T.view R.view result.stores in
+        IsLinesEnd (LinesOver (by_fills result.spent.fills) old new (placed ready) ready.asked) (K.view out.old) (K.view out.new) result.end }
+    ensures pages { result.spent.pages ≡ (T.view result.stores.tables).pages - (T.view stores.tables).pages }
     ensures count { (K.view out.old).faults ≤ (K.view out.new).faults }
 {
-    let before = tables.pages();
-    let sources = Mounted::new(docs, tables);
+    let before = stores.tables.pages();
+    let Ready { asked, docs, sites } = ready;
+    let Stores { tables, fars } = stores;
+    let sources = Reached::new(Mounted::new(docs, tables), sites, fars);
     match open_loop(alloc, sources) {
         Ok(mut remote) => {
             let end = answer_over(alloc, asked, &mut remote, out);

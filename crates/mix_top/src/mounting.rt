@@ -31,7 +31,8 @@ fn path_of(file: &Label) -> &str
     }
 }
 
-// The document of a source, given as the catalog says. That of a table asks for no page yet. An error is as with `mount_tree`.
+// The document of a source, given as the catalog says. That of a table asks for no page yet, and of a source of another machine nothing is
+// mounted. An error is as with `mount_tree`.
 fn mount_spec<F: Files>(alloc: Global, files: &mut F, spec: &SourceSpec) -> Result<Mount, Stop>
     requires { IsChunk spec.now.chunk }
     ensures keeps { KeepsFiles (F.view files.old) (F.view files.new) }
@@ -48,6 +49,7 @@ fn mount_spec<F: Files>(alloc: Global, files: &mut F, spec: &SourceSpec) -> Resu
             mount_table(alloc, files, path_of(file), spec, columns.as_slice())
         }
         SourceKind::Table { .. } => Ok(Mount::Table(TableDoc::open(alloc, spec)?)),
+        SourceKind::Remote { .. } => Ok(Mount::Absent),
     }
 }
 

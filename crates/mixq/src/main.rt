@@ -1,8 +1,13 @@
-//! The program `mixq`: the top calls over the files of the system, tables of SQLite files, standard input and standard output.
+//! The program `mixq`: the top calls over the files of the system, tables of SQLite files, sources of other machines behind two files each, standard
+//! input and standard output.
 #![tactic(auto)]
 
-use mix_call::{mixq, mixq_serve};
+use far_links::FarLinks;
+use file_dial::FileDial;
+use file_link::FileLink;
+use mix_call::{mixq_over, mixq_serve_over};
 use mix_io::{OsFiles, StdInput, StdSink, Streams};
+use mix_reach::Stores;
 use sqlite_tables::SqliteTables;
 use std::alloc::Global;
 use std::process::ExitCode;
@@ -23,14 +28,14 @@ fn answer(
     alloc: Global,
     words: &[String],
     files: &mut OsFiles,
-    tables: SqliteTables,
+    stores: Stores<SqliteTables, FarLinks<FileLink, FileDial>>,
     streams: &mut Streams<StdInput, StdSink>,
 ) -> u8 {
     let (status, _) = match words {
         [word, ..] if word.as_str() == "serve" => {
-            mixq_serve(alloc, words, files, tables, streams)
+            mixq_serve_over(alloc, words, files, stores, streams)
         }
-        _ => mixq(alloc, words, files, tables, streams),
+        _ => mixq_over(alloc, words, files, stores, streams),
     };
     status
 }
@@ -49,6 +54,9 @@ fn main(rt: HostRuntime) -> ExitCode {
         input: StdInput::new(rt),
         out: StdSink::new(rt),
     };
-    let tables = SqliteTables::new(rt, alloc);
-    ExitCode::from(answer(alloc, &words, &mut files, tables, &mut streams))
+    let stores = Stores {
+        tables: SqliteTables::new(rt, alloc),
+        fars: FarLinks::new(alloc, FileDial::new(rt)),
+    };
+    ExitCode::from(answer(alloc, &words, &mut files, stores, &mut streams))
 }

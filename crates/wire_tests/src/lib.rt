@@ -6,6 +6,8 @@ mod leaf;
 pub use leaf::{Leaf, ROOT};
 
 #[cfg(test)]
+mod fars;
+#[cfg(test)]
 mod lists;
 #[cfg(test)]
 mod remotes;

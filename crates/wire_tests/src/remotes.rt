@@ -156,12 +156,16 @@ fn a_reply_that_breaks_a_rule_fails_the_source(rt: HostRuntime) -> Result<(), Fa
     let holes = two_holes(alloc, &[0x82, 0, 0, 0, 2], 1)?;
     let three = [0x82, 0, 0, 0, 3, 0, 0, 0, 0, 1, b'c', 0, 0, 0, 0];
     let adjacent = two_holes(alloc, &three, 1)?;
-    let rows: [(&[u8], Broken); 7] = [
+    let one = [0x82, 0, 0, 0, 1, 0, 0, 0, 0, 1, b'c', 0, 0, 0, 2];
+    let below = two_holes(alloc, &one, 1)?;
+    let rows: [(&[u8], Broken); 9] = [
         ([0x82].as_slice(), Broken::NotAReply),
+        ([0x87].as_slice(), Broken::NotAReply),
         (ONE.as_slice(), Broken::WrongReply),
         (deep.as_slice(), Broken::TooDeep),
         (holes.as_slice(), Broken::HolesOnly),
         (adjacent.as_slice(), Broken::AdjacentHoles),
+        (below.as_slice(), Broken::AdjacentHoles),
         (heavy.as_slice(), Broken::Weight),
         (changed.as_slice(), Broken::WeightChanged),
     ];

@@ -17,36 +17,43 @@ returns-in_err-sources-clause-err g c =
     let p = err_from_is_err_and c.from_residual.result c.from_residual.ensures.1 in
     rw (p.1, p.2) (catalog_stops (view c.args.files.now) (view c.load_catalog.new.files) c.args.catalog.now _ c.in_err-sources.ensures.err)
 
-pub returns-in_err-mount_all-clause-keeps : goal.returns-in_err-mount_all-clause-keeps
-returns-in_err-mount_all-clause-keeps g c =
+pub returns-in_err-docs-clause-keeps : goal.returns-in_err-docs-clause-keeps
+returns-in_err-docs-clause-keeps g c =
     let view = g.F.Files.view in
-    keeps_files_twice (view c.args.files.now) (view c.load_catalog.new.files) (view c.mount_all.new.files) c.in_ok-sources.ensures.keeps c.in_err-mount_all.ensures.keeps
+    keeps_files_twice (view c.args.files.now) (view c.load_catalog.new.files) (view c.mount_all.new.files) c.in_ok-sources.ensures.keeps c.in_err-docs.ensures.keeps
 
-pub returns-in_err-mount_all-clause-reads : goal.returns-in_err-mount_all-clause-reads
-returns-in_err-mount_all-clause-reads g c =
+pub returns-in_err-docs-clause-reads : goal.returns-in_err-docs-clause-reads
+returns-in_err-docs-clause-reads g c =
     let view = g.F.Files.view in
     sources_read (view c.args.files.now) (view c.load_catalog.new.files) (view c.mount_all.new.files) c.args.catalog.now c.in_ok-sources.sources c.in_ok-sources.ensures.ok c.in_ok-sources.ensures.keeps
-    c.in_ok-sources.ensures.others c.in_err-mount_all.ensures.reads
+    c.in_ok-sources.ensures.others c.in_err-docs.ensures.reads
 
-pub returns-in_err-mount_all-clause-err : goal.returns-in_err-mount_all-clause-err
-returns-in_err-mount_all-clause-err g c =
+pub returns-in_err-docs-clause-err : goal.returns-in_err-docs-clause-err
+returns-in_err-docs-clause-err g c =
     let view = g.F.Files.view in
     let old = view c.args.files.now in
     let mid = view c.load_catalog.new.files in
-    let p = err_from_is_err_and c.from_residual-in_err-mount_all.result c.from_residual-in_err-mount_all.ensures.1 in
+    let p = err_from_is_err_and c.from_residual-in_err-docs.result c.from_residual-in_err-docs.ensures.1 in
     rw (p.1, p.2) (sources_stop old mid (view c.mount_all.new.files) c.args.catalog.now c.in_ok-sources.sources _ (is_steady old mid c.in_ok-sources.ensures.keeps c.in_ok-sources.ensures.steady)
-    c.in_ok-sources.ensures.ok c.in_err-mount_all.ensures.err)
+    c.in_ok-sources.ensures.ok c.in_err-docs.ensures.err)
 
 pub returns-clause-reads : goal.returns-clause-reads
 returns-clause-reads g c =
     let view = g.F.Files.view in
     sources_read (view c.args.files.now) (view c.load_catalog.new.files) (view c.mount_all.new.files) c.args.catalog.now c.in_ok-sources.sources c.in_ok-sources.ensures.ok c.in_ok-sources.ensures.keeps
-    c.in_ok-sources.ensures.others c.in_ok-mount_all.ensures.reads
+    c.in_ok-sources.ensures.others c.in_ok-docs.ensures.reads
 
 pub returns-clause-ok : goal.returns-clause-ok
 returns-clause-ok g c =
     let view = g.F.Files.view in (
       c.in_ok-sources.sources,
       c.in_ok-sources.ensures.ok,
-      mounts_before (view c.args.files.now) (view c.load_catalog.new.files) every c.in_ok-sources.sources c.in_ok-mount_all.field-0.items c.in_ok-sources.ensures.keeps c.in_ok-mount_all.ensures.ok,
+      mounts_before (view c.args.files.now) (view c.load_catalog.new.files) every c.in_ok-sources.sources c.in_ok-docs.docs.items c.in_ok-sources.ensures.keeps c.in_ok-docs.ensures.ok,
+      c.in_ok-sites.ensures,
     )
+
+pub returns-in_err-sites-clause-reads : goal.returns-in_err-sites-clause-reads
+returns-in_err-sites-clause-reads g c =
+    let view = g.F.Files.view in
+    sources_read (view c.args.files.now) (view c.load_catalog.new.files) (view c.mount_all.new.files) c.args.catalog.now c.in_ok-sources.sources c.in_ok-sources.ensures.ok c.in_ok-sources.ensures.keeps
+    c.in_ok-sources.ensures.others c.in_ok-docs.ensures.reads

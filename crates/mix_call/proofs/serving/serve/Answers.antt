@@ -1,12 +1,12 @@
 use Rattle.std.proofs.Common.{◌≡◌, inl, inr, Err, IfErr, refl, subst}
 use Rattle.mix_top.specs.declared.refusal.Stop.TheVariants.{Refused}
 use Rattle.mix_top.proofs.StopLaws.{refusal_ends}
-use Rattle.mix_call.specs.Served.{IsServingRefused, IsServingStop}
+use Rattle.mix_call.specs.Served.{IsServingRefused, IsServingStop, placed}
 use Rattle.mix_call.proofs.serving.serve.Goals as goal
 
 pub returns-in-Ok-clause-ends : goal.returns-in-Ok-clause-ends
 returns-in-Ok-clause-ends g c =
-    inr (record { docs = c.in-Ok.docs.items; are = c.in-Ok.ensures.ok; end = c.serve_ready-end.result.0; status_is = c.status_of.ensures; answered = c.serve_ready-end.ensures.answered })
+    inr (record { place = placed c.in-Ok.held; are = c.in-Ok.ensures.ok; end = c.serve_ready-end.result.0; status_is = c.status_of.ensures; answered = c.serve_ready-end.ensures.answered })
 
 pub returns-in-Err-Refused-clause-ends : goal.returns-in-Err-Refused-clause-ends
 returns-in-Err-Refused-clause-ends g c =

@@ -57,7 +57,10 @@ returns-clause-ok g c =
     record {
       catalog_is = c.in_ok-catalog.ensures.ok;
       plan_is = plan_before old mid c.args.talking.now.view.now c.in_ok-catalog.catalog (plan_value c.in_ok-plan.plan) c.in_ok-catalog.ensures.keeps c.in_ok-plan.ensures.ok;
-      mounted = mounts_before old late (reads_source (plan_value c.in_ok-plan.plan).ops) c.in_ok-catalog.catalog c.in_ok-docs.docs.items keeps c.in_ok-docs.ensures.ok;
+      placed_are = record {
+        mounted = mounts_before old late (reads_source (plan_value c.in_ok-plan.plan).ops) c.in_ok-catalog.catalog c.in_ok-docs.docs.items keeps c.in_ok-docs.ensures.ok;
+        sites = c.in_ok-sites.ensures;
+      };
       few = c.in_ok-docs.ensures.few;
       over = c.in_ok-plan.ensures.over;
     }
@@ -84,6 +87,12 @@ returns-in_err-docs-clause-reads g c =
 
 pub returns-clause-reads : goal.returns-clause-reads
 returns-clause-reads g c =
+    let view = g.F.Files.view in
+    sources_read (view c.args.files.now) (view c.load_catalog.new.files) (view c.load_view.new.files) (view c.mount_sources.new.files) c.args.talking.now.view.now c.args.talking.now.catalog.now c.in_ok-catalog.catalog
+    (plan_value c.in_ok-plan.plan) c.in_ok-catalog.ensures.ok c.in_ok-plan.ensures.ok c.in_ok-catalog.ensures.keeps c.in_ok-plan.ensures.keeps c.in_ok-catalog.ensures.others c.in_ok-plan.ensures.others c.in_ok-docs.ensures.reads
+
+pub returns-in_err-sites-clause-reads : goal.returns-in_err-sites-clause-reads
+returns-in_err-sites-clause-reads g c =
     let view = g.F.Files.view in
     sources_read (view c.args.files.now) (view c.load_catalog.new.files) (view c.load_view.new.files) (view c.mount_sources.new.files) c.args.talking.now.view.now c.args.talking.now.catalog.now c.in_ok-catalog.catalog
     (plan_value c.in_ok-plan.plan) c.in_ok-catalog.ensures.ok c.in_ok-plan.ensures.ok c.in_ok-catalog.ensures.keeps c.in_ok-plan.ensures.keeps c.in_ok-catalog.ensures.others c.in_ok-plan.ensures.others c.in_ok-docs.ensures.reads

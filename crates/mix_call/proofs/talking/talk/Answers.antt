@@ -1,6 +1,7 @@
 use Rattle.std.proofs.Common.{◌≡◌, Result, Err, IfErr, subst}
 use Rattle.mix_top.specs.declared.refusal.Stop.{Stop}
 use Rattle.mix_top.specs.declared.refusal.Stop.TheVariants.{Refused}
+use Rattle.mix_reach.specs.Stores.{stores_in}
 use Rattle.mix_call.specs.declared.talking.Ready.{Ready}
 use Rattle.mix_call.specs.Over.{IsReadyStop}
 use Rattle.mix_call.proofs.Held.{held, refused}
@@ -9,10 +10,10 @@ use Rattle.mix_call.proofs.talking.talk.Goals as goal
 pub returns-in-Ok-clause-ends : goal.returns-in-Ok-clause-ends
 returns-in-Ok-clause-ends g c =
     let files = g.F.Files.view in
-    let tables = g.T.Tables.view in
+    let stores = stores_in g.T.Tables.view g.R.Fars.view in
     let input = g.I.Input.view in
     let sink = g.K.Sink.view in
-    held (files c.args.files.now) (files c.make_ready.new.files) (tables c.args.tables) (tables c.talk_ready-end.result.1) c.args.talking.now.view.now c.args.talking.now.catalog.now c.visited_are_matches.ensures
+    held (files c.args.files.now) (files c.make_ready.new.files) (stores c.args.stores) (stores c.talk_ready-end.result.1) c.args.talking.now.view.now c.args.talking.now.catalog.now c.visited_are_matches.ensures
     (input c.args.streams.now.input) (input c.talk_ready-end.new.streams.input) (sink c.args.streams.now.out) (sink c.talk_ready-end.new.streams.out) c.in-Ok.ready c.in-Ok.ensures.ok c.talk_ready-end.result.0 c.talk_ready-end.ensures.end
     c.status_of.result c.status_of.ensures
 
@@ -26,6 +27,6 @@ returns-in-Err-Refused-clause-ends g c =
     let old = files c.args.files.now in
     let new = files c.make_ready.new.files in
     let is : c.make_ready.result ≡ Err (Refused c.in-Err-Refused.refusal) = cc in
-    refused old new (g.T.Tables.view c.args.tables) c.args.talking.now.view.now c.args.talking.now.catalog.now (g.I.Input.view c.args.streams.now.input) (sink c.args.streams.now.out) (sink c.refuse.new.out)
+    refused old new (stores_in g.T.Tables.view g.R.Fars.view c.args.stores) c.args.talking.now.view.now c.args.talking.now.catalog.now (g.I.Input.view c.args.streams.now.input) (sink c.args.streams.now.out) (sink c.refuse.new.out)
     c.in-Err-Refused.refusal c.refuse.result
     (subst (λ (r : Result Ready Stop). IfErr r (IsReadyStop old new c.args.talking.now.view.now c.args.talking.now.catalog.now)) is c.make_ready.ensures.err) c.refuse.ensures.ends

@@ -1,6 +1,8 @@
-use Rattle.std.proofs.Common.{◌≡◌, ◌∙◌, ap, sym, subst, List, true, refl}
+use Rattle.std.proofs.Common.{◌≡◌, ◌∙◌, ap, sym, subst, List, true}
 use Rattle.std.specs.List.{list_all}
-use Rattle.mix_mount.specs.Mounts.{mounted_in, view_of}
+use Rattle.mix_reach.specs.Reach.{reaching_in, view_of}
+use Rattle.mix_reach.specs.Stores.{stores_of}
+use Rattle.mix_top.specs.Answered.{all_told}
 use Rattle.plan_core.specs.Plans.{Operator}
 use Rattle.plan_core.specs.PlanMade.{plan_value}
 use Rattle.plan_core.specs.declared.plan.Plan.{Plan}
@@ -8,9 +10,9 @@ use Rattle.lazy_binding.specs.World.{reads}
 use Rattle.lazy_value.specs.Mediators.{state_of}
 use Rattle.mix_session.specs.Walks.{plan_course}
 use Rattle.mix_talk.specs.Ends.{TalkEnds}
-use Rattle.mix_top.proofs.Answering.{run_document}
-use Rattle.mix_top.proofs.Mounts.{reads_told}
-use Rattle.mix_top.proofs.ReadTables.{all_pass, plan_within}
+use Rattle.mix_top.proofs.Answering.{documents_are, run_document, tells_itself}
+use Rattle.mix_top.proofs.Mounts.{reads_forward, reads_told}
+use Rattle.mix_top.proofs.ReadTables.{plan_within}
 use Rattle.mix_call.proofs.TalkLines.{talk_lines_end}
 use Rattle.mix_call.proofs.talking.talk_over.Goals as goal
 
@@ -20,15 +22,18 @@ returns-clause-end g c few =
     let after = g.K.Sink.view c.talk_lines.new.streams.out in
     let input = g.I.Input.view c.args.streams.now.input in
     let input' = g.I.Input.view c.talk_lines.new.streams.input in
-    let old = mounted_in g.T.Tables.view c.args.sources.now in
-    let new = mounted_in g.T.Tables.view c.talk_lines.new.s in
+    let old = reaching_in g.T.Tables.view g.R.Fars.view c.args.sources.now in
+    let new = reaching_in g.T.Tables.view g.R.Fars.view c.talk_lines.new.s in
     let basis = c.args.basis in
-    let files = c.requires.mounted.0 in
+    let files = c.requires.placed.0 in
     let p = plan_value basis.plan in
     let is = ap (λ (q : Plan). (plan_value q).ops) c.in_ok-mediator.ensures.plan in
     let found = run_document old c.in_ok-mediator.mediator p.ops is (λ d. c.valid_plans_have_documents.ensures p c.requires.over.valid d) in
     let st = state_of (view_of old) c.in_ok-mediator.mediator in
+    let docs_are = documents_are (view_of old) old (tells_itself old) c.in_ok-mediator.mediator p.ops is in
     let ends = subst (λ n. TalkEnds (plan_course st) (view_of old) (view_of new) n input input' before after c.talk_lines.result) (c.deref.ensures.value ∙ c.in_ok-names.ensures) c.talk_lines.ensures.ends in
-    let ahead = subst (λ (o : List Operator). list_all (reads (view_of old).forward) o ≡ true) (sym is) (all_pass (λ s. true) p.ops (λ s e. refl)) in
-    talk_lines_end files old new c.talk_lines.ensures.came basis c.requires.mounted.1 c.requires.over st is refl ahead found.0
-    (λ all. found.2 (reads_told files p.ops basis.catalog old.docs c.requires.mounted.1 old.tables (plan_within basis.catalog p c.requires.over) all)) c.requires.unasked few found.1 input input' before after c.talk_lines.result ends
+    let within = plan_within basis.catalog p c.requires.over in
+    let ahead = λ (all : all_told (stores_of old) p.ops basis.catalog ≡ true).
+    subst (λ (o : List Operator). list_all (reads (view_of old).forward) o ≡ true) (sym is) (reads_forward files p.ops basis.catalog old c.requires.placed.1 within all) in
+    talk_lines_end files old new c.talk_lines.ensures.came basis c.requires.placed.1 c.requires.over st is docs_are ahead found.0
+    (λ all. found.2 (reads_told files p.ops basis.catalog old c.requires.placed.1 within all)) c.requires.unasked few found.1 input input' before after c.talk_lines.result ends

@@ -1,27 +1,32 @@
-use Rattle.std.proofs.Common.{◌≤◌, ◌+◌, List, ap, arith, subst, sym}
-use Rattle.mix_mount.specs.Mounts.{docs_of, mounted_in, tables_of}
-use Rattle.mix_mount.specs.declared.mount.Mount.{Mount}
+use Rattle.std.proofs.Common.{◌≤◌, ◌+◌, ap, arith, subst, sym}
+use Rattle.mix_reach.specs.Reach.{reaching_in}
+use Rattle.mix_reach.specs.Stores.{StoresView, stores_in, stores_of}
+use Rattle.mix_top.specs.Running.{Placed, placed_of}
 use Rattle.mix_call.specs.Ends.{TalkedAlong}
-use Rattle.mix_call.specs.Over.{TalkOver}
+use Rattle.mix_call.specs.Over.{TalkOver, placed}
+use Rattle.mix_top.proofs.Opening.{parts_over, placed_new, stores_new}
 use Rattle.mix_call.proofs.talking.talk_ready.Goals as goal
 
 pub returns-clause-end : goal.returns-clause-end
 returns-clause-end g c =
-    let tables = g.T.Tables.view in
+    let stores = stores_in g.T.Tables.view g.R.Fars.view in
     let input = g.I.Input.view in
     let sink = g.K.Sink.view in
-    let mounted = c.new-sources.result in
-    let old = mounted_in tables mounted in
-    let new = mounted_in tables c.talk_over-end.new.sources in
+    let old = reaching_in g.T.Tables.view g.R.Fars.view c.new-sources.result in
+    let new = reaching_in g.T.Tables.view g.R.Fars.view c.talk_over-end.new.sources in
     let none = c.new-sources.ensures.fills in
     let pages = c.talk_over-end.ensures.came.pages in
-    let same = ap (λ t. (tables t).pages) c.into_tables-tables.ensures in
-    let few : new.tables.pages ≤ old.tables.pages + new.fills = omega (arith, none, pages, same) in
-    let Along : List Mount → g.row.T.Denot → g.row.T.Denot → Type 0 = λ docs before after.
-    TalkedAlong (TalkOver new.fills (tables before) (tables after) docs c.args.ready.basis) (input c.args.streams.now.input) (input c.talk_over-end.new.streams.input)
-    (sink c.args.streams.now.out) (sink c.talk_over-end.new.streams.out) c.talk_over-end.result in (
+    let parts = parts_over g.T.Tables.view g.R.Fars.view c.talk_over-end.new.sources c.into_parts-mounted.result c.into_tables-tables.result c.into_parts-mounted.ensures c.into_tables-tables.ensures in
+    let same = ap (λ (v : StoresView). v.tables.pages) parts in
+    let few : new.mounted.tables.pages ≤ old.mounted.tables.pages + new.fills = omega (arith, none, pages, same) in
+    let Along : Placed → StoresView → StoresView → Type 0 = λ place before after.
+    TalkedAlong (TalkOver new.fills before after place c.args.ready.basis) (input c.args.streams.now.input) (input c.talk_over-end.new.streams.input)
+    (sink c.args.streams.now.out) (sink c.talk_over-end.new.streams.out) c.talk_over-end.result in
+    let after : StoresView = stores (record { tables = c.into_tables-tables.result; fars = c.into_parts-mounted.result.1 }) in
+    let opened = stores_new g.T.Tables.view g.R.Fars.view c.args.stores c.new.result c.new-sources.result c.new.ensures.tables c.new-sources.ensures.mounted c.new-sources.ensures.fars in
+    let place = placed_new g.T.Tables.view g.R.Fars.view (placed c.args.ready) c.new.result c.new-sources.result c.new.ensures.docs c.new-sources.ensures.mounted c.new-sources.ensures.sites in (
       new.fills,
-      subst (λ docs. Along docs c.args.tables c.into_tables-tables.result) c.new-sources.ensures.docs
-          (subst (λ before. Along (docs_of mounted) before c.into_tables-tables.result) c.new-sources.ensures.tables
-          (subst (λ after. Along (docs_of mounted) (tables_of mounted) after) (sym c.into_tables-tables.ensures) (c.talk_over-end.ensures.end few))),
+      subst (λ (p : Placed). Along p (stores c.args.stores) after) place
+          (subst (λ (before : StoresView). Along (placed_of old) before after) opened
+          (subst (λ (now : StoresView). Along (placed_of old) (stores_of old) now) (sym parts) (c.talk_over-end.ensures.end few))),
     )

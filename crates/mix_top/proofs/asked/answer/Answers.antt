@@ -1,17 +1,20 @@
-use Rattle.std.proofs.Common.{sym, subst, ap}
-use Rattle.mix_mount.specs.Mounts.{mounted_in, view_of}
+use Rattle.std.proofs.Common.{subst, sym}
+use Rattle.mix_reach.specs.Reach.{reaching_in, view_of}
+use Rattle.mix_reach.specs.Stores.{stores_in}
 use Rattle.plan_core.specs.PlanMade.{plan_value}
-use Rattle.mix_top.specs.Mounting.{AreMounted}
-use Rattle.mix_top.proofs.StoodFor.{mounted_end, stands_itself}
+use Rattle.mix_top.specs.Running.{ArePlaced, Placed, placed}
+use Rattle.mix_top.proofs.Opening.{placed_new, stores_new}
+use Rattle.mix_top.proofs.StoodFor.{reached_end, stands_itself}
 use Rattle.mix_top.proofs.asked.answer.Goals as goal
 
 pub returns-clause-end : goal.returns-clause-end
 returns-clause-end g c =
-    let view = g.T.Tables.view in
-    let a = mounted_in view c.new-sources.result in
-    let b = mounted_in view c.answer_over-end.new.sources in
-    let asked = c.args.asked in
-    mounted_end (view_of a) (view_of b) asked (g.K.Sink.view c.args.out.now) (g.K.Sink.view c.answer_over-end.new.out) c.answer_over-end.result c.requires.mounted.0 a b c.answer_over-end.ensures.end
-    (subst (λ docs. AreMounted c.requires.mounted.0 (plan_value asked.plan).ops asked.catalog docs) (sym c.new-sources.ensures.docs) c.requires.mounted.1) c.new-sources.ensures.fills (stands_itself a b c.answer_over-end.ensures.came) c.hand_back.ensures.most
-    c.args.docs.items (view c.args.tables) (view c.hand_back.result.tables) c.hand_back.result.spent.fills c.hand_back.result.end
-    c.new-sources.ensures.docs (ap view c.new-sources.ensures.tables) (ap view (sym c.hand_back.ensures.tables)) c.hand_back.ensures.fills c.hand_back.ensures.end
+    let stores = stores_in g.T.Tables.view g.R.Fars.view in
+    let a = reaching_in g.T.Tables.view g.R.Fars.view c.new-sources.result in
+    let b = reaching_in g.T.Tables.view g.R.Fars.view c.answer_over-end.new.sources in
+    let asked = c.args.ready.asked in
+    let place = placed_new g.T.Tables.view g.R.Fars.view (placed c.args.ready) c.new.result c.new-sources.result c.new.ensures.docs c.new-sources.ensures.mounted c.new-sources.ensures.sites in
+    reached_end (view_of a) (view_of b) asked (g.K.Sink.view c.args.out.now) (g.K.Sink.view c.answer_over-end.new.out) c.answer_over-end.result c.requires.placed.0 a b c.answer_over-end.ensures.end
+    (subst (λ (p : Placed). ArePlaced c.requires.placed.0 (plan_value asked.plan).ops asked.catalog p) (sym place) c.requires.placed.1) c.new-sources.ensures.fills (stands_itself a b c.answer_over-end.ensures.came) c.hand_back.ensures.most
+    (placed c.args.ready) (stores c.args.stores) (stores c.hand_back.result.stores) c.hand_back.result.spent.fills c.hand_back.result.end
+    place (stores_new g.T.Tables.view g.R.Fars.view c.args.stores c.new.result c.new-sources.result c.new.ensures.tables c.new-sources.ensures.mounted c.new-sources.ensures.fars) (sym c.hand_back.ensures.stores) c.hand_back.ensures.fills c.hand_back.ensures.end

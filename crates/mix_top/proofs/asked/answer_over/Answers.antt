@@ -1,24 +1,29 @@
-use Rattle.std.proofs.Common.{◌≡◌, ◌∙◌, ap, sym, subst, Result, List, true}
+use Rattle.std.proofs.Common.{◌≡◌, ◌∙◌, ap, sym, subst, Result, List, ℕ, Bool, true}
+use Rattle.std.proofs.Math.Path.{fun_ext}
 use Rattle.std.specs.List.{list_all}
 use Rattle.plan_core.specs.Plans.{Operator}
 use Rattle.plan_core.specs.PlanMade.{plan_value}
 use Rattle.plan_core.specs.declared.plan.Plan.{Plan}
+use Rattle.lazy_plan.specs.Bench.{ops_of}
 use Rattle.lazy_value.specs.Mediators.{state_of}
+use Rattle.mix_reach.specs.Reach.{view_of}
+use Rattle.mix_top.specs.Answered.{all_told}
 use Rattle.mix_session.specs.Walks.{plan_course}
 use Rattle.xmas_read.specs.Results.{names_of_sources}
 use Rattle.mix_top.specs.declared.refusal.Outcome.{Outcome}
 use Rattle.mix_lines.specs.declared.fault.LinesFault.{LinesFault}
 use Rattle.lazy_binding.specs.World.{reads}
-use Rattle.mix_top.specs.Running.{IsLinesEnd, LinesOver, by_fills}
-use Rattle.mix_top.proofs.Mounts.{reads_told}
+use Rattle.mix_reach.specs.Stores.{stores_of}
+use Rattle.mix_top.specs.Running.{IsLinesEnd, LinesOver, by_fills, placed_of}
+use Rattle.mix_top.proofs.Mounts.{reads_forward, reads_told}
 use Rattle.mix_top.proofs.Answering.{document_over, documents_are}
 use Rattle.mix_top.proofs.LinesEnd.{renamed, lines_end}
-use Rattle.mix_top.proofs.ReadTables.{all_pass, plan_within}
-use Rattle.mix_top.proofs.StoodFor.{ends_mounted}
+use Rattle.mix_top.proofs.ReadTables.{plan_within}
+use Rattle.mix_top.proofs.StoodFor.{ends_stood}
 use Rattle.mix_top.proofs.asked.answer_over.Goals as goal
 
 pub returns-clause-end : goal.returns-clause-end
-returns-clause-end g c = λ files a b mounted unasked stand few.
+returns-clause-end g c = λ files a b place unasked stand few.
     let before = g.K.Sink.view c.args.out.now in
     let after = g.K.Sink.view c.run_lines.new.out in
     let old = g.S.Sources.view c.args.sources.now in
@@ -33,8 +38,10 @@ returns-clause-end g c = λ files a b mounted unasked stand few.
     let st = state_of old m in
     let same = renamed (plan_course st) old new (names_of_sources sources) c.deref-2.result.now steps c.deref.result.now before after c.run_lines.result
     (c.deref-2.ensures.value ∙ c.in_ok-names.ensures) c.deref.ensures.value c.run_lines.ensures.ends in
-    let ends = ends_mounted (plan_course st) old new a b stand (names_of_sources sources) steps before after c.run_lines.result same in
-    let ahead = subst (λ (o : List Operator). list_all (reads old.forward) o ≡ true) (sym is) (all_pass old.forward p.ops (λ s e. stand.tells.forward s)) in
-    subst (λ (r : Result Outcome LinesFault). IsLinesEnd (LinesOver (by_fills b.fills) a.tables b.tables a.docs asked) before after r) (sym c.end_of.ensures)
-    (lines_end files a b stand.came asked mounted c.requires.over st is (documents_are old a stand.tells m p.ops is) ahead found.0
-    (λ all. found.2 (reads_told files p.ops sources a.docs mounted a.tables (plan_within sources p c.requires.over) all)) unasked few before after found.1 c.run_lines.result ends)
+    let ends = ends_stood (plan_course st) old new a b stand (names_of_sources sources) steps before after c.run_lines.result same in
+    let within = plan_within sources p c.requires.over in
+    let ahead = λ (all : all_told (stores_of a) p.ops sources ≡ true). subst (λ (forward : ℕ → Bool). list_all (reads forward) (ops_of st) ≡ true) (sym (fun_ext stand.tells.forward))
+    (subst (λ (o : List Operator). list_all (reads (view_of a).forward) o ≡ true) (sym is) (reads_forward files p.ops sources a place within all)) in
+    subst (λ (r : Result Outcome LinesFault). IsLinesEnd (LinesOver (by_fills b.fills) (stores_of a) (stores_of b) (placed_of a) asked) before after r) (sym c.end_of.ensures)
+    (lines_end files a b stand.came asked place c.requires.over st is (documents_are old a stand.tells m p.ops is) ahead found.0
+    (λ all. found.2 (reads_told files p.ops sources a place within all)) unasked few before after found.1 c.run_lines.result ends)

@@ -4,7 +4,8 @@ use Rattle.mix_top.specs.declared.refusal.Stop.{Stop}
 use Rattle.mix_top.specs.declared.running.RunForm.{RunForm}
 use Rattle.mix_top.specs.declared.running.RunForm.TheVariants.{Answers, Executed}
 use Rattle.mix_top.specs.Course.{lines_of_run}
-use Rattle.mix_top.specs.Running.{LinesOver, run_lines}
+use Rattle.mix_reach.specs.Stores.{stores_in}
+use Rattle.mix_top.specs.Running.{LinesOver, placed, run_lines}
 use Rattle.mix_top.specs.Stops.{IsDoneAs, IsStop}
 use Rattle.mix_top.proofs.Forms.{of_either}
 use Rattle.mix_top.proofs.RunCourse.{ended_done, ended_stopped}
@@ -12,68 +13,68 @@ use Rattle.mix_top.proofs.running.run_ready.Goals as goal
 
 pub returns-in-Answers-clause-done : goal.returns-in-Answers-clause-done
 returns-in-Answers-clause-done g c =
-    let old = g.T.Tables.view c.args.tables in
-    let new = g.T.Tables.view c.answer-answered.result.tables in
-    let docs = c.args.ready.docs.items in
+    let old = stores_in g.T.Tables.view g.R.Fars.view c.args.stores in
+    let new = stores_in g.T.Tables.view g.R.Fars.view c.answer-answered.result.stores in
+    let p = placed c.args.ready in
     let asked = c.args.ready.asked in
     let before = g.K.Sink.view c.args.out.now in
     let after = g.K.Sink.view c.answer-answered.new.out in
     let done =
-    subst (λ (r : Result Outcome Stop). IfOk r (IsDoneAs (LinesOver lines_of_run old new docs asked before after) before after)) (sym c.ended.ensures)
-    (ended_done old new docs asked before after c.answer-answered.result.spent.fills c.answer-answered.result.end c.answer-answered.ensures.end) in
-    of_either (λ form. IfOk c.ended.result (IsDoneAs (LinesOver (run_lines form) old new docs asked before after) before after)) c.args.form Answers Executed c.in-Answers.is done done
+    subst (λ (r : Result Outcome Stop). IfOk r (IsDoneAs (LinesOver lines_of_run old new p asked before after) before after)) (sym c.ended.ensures)
+    (ended_done old new p asked before after c.answer-answered.result.spent.fills c.answer-answered.result.end c.answer-answered.ensures.end) in
+    of_either (λ form. IfOk c.ended.result (IsDoneAs (LinesOver (run_lines form) old new p asked before after) before after)) c.args.form Answers Executed c.in-Answers.is done done
 
 pub returns-in-Counts-clause-done : goal.returns-in-Counts-clause-done
 returns-in-Counts-clause-done g c =
-    let old = g.T.Tables.view c.args.tables in
-    let new = g.T.Tables.view c.count_ready.result.1 in
+    let old = stores_in g.T.Tables.view g.R.Fars.view c.args.stores in
+    let new = stores_in g.T.Tables.view g.R.Fars.view c.count_ready.result.1 in
     let before = g.K.Sink.view c.args.out.now in
     let after = g.K.Sink.view c.count_ready.new.out in
-    subst (λ (form : RunForm). IfOk c.count_ready.result.0 (IsDoneAs (LinesOver (run_lines form) old new c.args.ready.docs.items c.args.ready.asked before after) before after)) (sym c.in-Counts.is)
+    subst (λ (form : RunForm). IfOk c.count_ready.result.0 (IsDoneAs (LinesOver (run_lines form) old new (placed c.args.ready) c.args.ready.asked before after) before after)) (sym c.in-Counts.is)
     c.count_ready.ensures.done
 
 pub returns-in-Answers-clause-stop : goal.returns-in-Answers-clause-stop
 returns-in-Answers-clause-stop g c =
-    let old = g.T.Tables.view c.args.tables in
-    let new = g.T.Tables.view c.answer-answered.result.tables in
-    let docs = c.args.ready.docs.items in
+    let old = stores_in g.T.Tables.view g.R.Fars.view c.args.stores in
+    let new = stores_in g.T.Tables.view g.R.Fars.view c.answer-answered.result.stores in
+    let p = placed c.args.ready in
     let asked = c.args.ready.asked in
     let before = g.K.Sink.view c.args.out.now in
     let after = g.K.Sink.view c.answer-answered.new.out in
     let stopped =
-    subst (λ (r : Result Outcome Stop). IfErr r (IsStop (LinesOver lines_of_run old new docs asked before after) before after)) (sym c.ended.ensures)
-    (ended_stopped old new docs asked before after c.answer-answered.result.spent.fills c.answer-answered.result.end c.answer-answered.ensures.end) in
-    of_either (λ form. IfErr c.ended.result (IsStop (LinesOver (run_lines form) old new docs asked before after) before after)) c.args.form Answers Executed c.in-Answers.is stopped stopped
+    subst (λ (r : Result Outcome Stop). IfErr r (IsStop (LinesOver lines_of_run old new p asked before after) before after)) (sym c.ended.ensures)
+    (ended_stopped old new p asked before after c.answer-answered.result.spent.fills c.answer-answered.result.end c.answer-answered.ensures.end) in
+    of_either (λ form. IfErr c.ended.result (IsStop (LinesOver (run_lines form) old new p asked before after) before after)) c.args.form Answers Executed c.in-Answers.is stopped stopped
 
 pub returns-in-Counts-clause-stop : goal.returns-in-Counts-clause-stop
 returns-in-Counts-clause-stop g c =
-    let old = g.T.Tables.view c.args.tables in
-    let new = g.T.Tables.view c.count_ready.result.1 in
+    let old = stores_in g.T.Tables.view g.R.Fars.view c.args.stores in
+    let new = stores_in g.T.Tables.view g.R.Fars.view c.count_ready.result.1 in
     let before = g.K.Sink.view c.args.out.now in
     let after = g.K.Sink.view c.count_ready.new.out in
-    subst (λ (form : RunForm). IfErr c.count_ready.result.0 (IsStop (LinesOver (run_lines form) old new c.args.ready.docs.items c.args.ready.asked before after) before after)) (sym c.in-Counts.is)
+    subst (λ (form : RunForm). IfErr c.count_ready.result.0 (IsStop (LinesOver (run_lines form) old new (placed c.args.ready) c.args.ready.asked before after) before after)) (sym c.in-Counts.is)
     c.count_ready.ensures.stop
 
 pub returns-in-Looped-clause-done : goal.returns-in-Looped-clause-done
 returns-in-Looped-clause-done g c =
-    let old = g.T.Tables.view c.args.tables in
-    let new = g.T.Tables.view c.answer_looped-answered.result.tables in
-    let docs = c.args.ready.docs.items in
+    let old = stores_in g.T.Tables.view g.R.Fars.view c.args.stores in
+    let new = stores_in g.T.Tables.view g.R.Fars.view c.answer_looped-answered.result.stores in
+    let p = placed c.args.ready in
     let asked = c.args.ready.asked in
     let before = g.K.Sink.view c.args.out.now in
     let after = g.K.Sink.view c.answer_looped-answered.new.out in
-    subst (λ (form : RunForm). IfOk c.ended-in-Looped.result (IsDoneAs (LinesOver (run_lines form) old new docs asked before after) before after)) (sym c.in-Looped.is)
-    (subst (λ (r : Result Outcome Stop). IfOk r (IsDoneAs (LinesOver lines_of_run old new docs asked before after) before after)) (sym c.ended-in-Looped.ensures)
-    (ended_done old new docs asked before after c.answer_looped-answered.result.spent.fills c.answer_looped-answered.result.end c.answer_looped-answered.ensures.end))
+    subst (λ (form : RunForm). IfOk c.ended-in-Looped.result (IsDoneAs (LinesOver (run_lines form) old new p asked before after) before after)) (sym c.in-Looped.is)
+    (subst (λ (r : Result Outcome Stop). IfOk r (IsDoneAs (LinesOver lines_of_run old new p asked before after) before after)) (sym c.ended-in-Looped.ensures)
+    (ended_done old new p asked before after c.answer_looped-answered.result.spent.fills c.answer_looped-answered.result.end c.answer_looped-answered.ensures.end))
 
 pub returns-in-Looped-clause-stop : goal.returns-in-Looped-clause-stop
 returns-in-Looped-clause-stop g c =
-    let old = g.T.Tables.view c.args.tables in
-    let new = g.T.Tables.view c.answer_looped-answered.result.tables in
-    let docs = c.args.ready.docs.items in
+    let old = stores_in g.T.Tables.view g.R.Fars.view c.args.stores in
+    let new = stores_in g.T.Tables.view g.R.Fars.view c.answer_looped-answered.result.stores in
+    let p = placed c.args.ready in
     let asked = c.args.ready.asked in
     let before = g.K.Sink.view c.args.out.now in
     let after = g.K.Sink.view c.answer_looped-answered.new.out in
-    subst (λ (form : RunForm). IfErr c.ended-in-Looped.result (IsStop (LinesOver (run_lines form) old new docs asked before after) before after)) (sym c.in-Looped.is)
-    (subst (λ (r : Result Outcome Stop). IfErr r (IsStop (LinesOver lines_of_run old new docs asked before after) before after)) (sym c.ended-in-Looped.ensures)
-    (ended_stopped old new docs asked before after c.answer_looped-answered.result.spent.fills c.answer_looped-answered.result.end c.answer_looped-answered.ensures.end))
+    subst (λ (form : RunForm). IfErr c.ended-in-Looped.result (IsStop (LinesOver (run_lines form) old new p asked before after) before after)) (sym c.in-Looped.is)
+    (subst (λ (r : Result Outcome Stop). IfErr r (IsStop (LinesOver lines_of_run old new p asked before after) before after)) (sym c.ended-in-Looped.ensures)
+    (ended_stopped old new p asked before after c.answer_looped-answered.result.spent.fills c.answer_looped-answered.result.end c.answer_looped-answered.ensures.end))

@@ -2,6 +2,7 @@ use Rattle.std.proofs.Common.{◌≡◌, Result, Err, IfErr, subst}
 use Rattle.std.specs.Prelude.{map, string_bytes}
 use Rattle.mix_top.specs.Commands.{command_of}
 use Rattle.mix_top.specs.Course.{IsCourse}
+use Rattle.mix_reach.specs.Stores.{stores_in}
 use Rattle.mix_top.specs.Outside.{outside}
 use Rattle.mix_top.specs.Stops.{IsStop}
 use Rattle.mix_top.specs.declared.refusal.Outcome.{Outcome}
@@ -14,8 +15,8 @@ pub returns-in-Err-Refused-clause-ends : goal.returns-in-Err-Refused-clause-ends
 returns-in-Err-Refused-clause-ends g c =
     let s0 = g.K.Sink.view c.args.out.now in
     let s1 = g.K.Sink.view c.run-end.new.out in
-    let before = outside (g.F.Files.view c.args.files.now) (g.T.Tables.view c.args.tables) in
-    let after = outside (g.F.Files.view c.run-end.new.files) (g.T.Tables.view c.run-end.result.1) in
+    let before = outside (g.F.Files.view c.args.files.now) (stores_in g.T.Tables.view g.R.Fars.view c.args.stores) in
+    let after = outside (g.F.Files.view c.run-end.new.files) (stores_in g.T.Tables.view g.R.Fars.view c.run-end.result.1) in
     let command = command_of (map string_bytes c.args.words.now) in
     let end_is = c.in-Err-Refused.is in
     let stop_is = c.in-Err-Refused.field-0-is in

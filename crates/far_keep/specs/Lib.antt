@@ -1,0 +1,5 @@
+pub mod Listed
+pub mod Memory
+pub mod Names
+pub mod Untold
+pub mod Views

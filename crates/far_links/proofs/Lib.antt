@@ -1,0 +1,5 @@
+pub mod Failures
+pub mod Finding
+pub mod Naming
+pub mod Same
+pub mod Standings

@@ -1,0 +1,3 @@
+pub mod FileLinks
+pub mod Losses
+pub mod Receiving

@@ -1,0 +1,193 @@
+-- What mounted documents beside sources of other machines mean as sources.
+use Rattle.std.specs.Prelude.{◌≡◌, ◌⊎◌, ℕ, ◌<◌, ◌≤◌, ◌+◌, ◌-◌, ◌^◌, Bool, true, List, get_or, refl}
+use Rattle.std.proofs.Common.{inl, inr, sym, subst, ap, ◌∙◌, arith}
+use Rattle.mix_tree.specs.Forest.{Forest}
+use Rattle.lxp_core.specs.declared.open_tree.HoleId.{HoleId}
+use Rattle.lxp_core.specs.View.{View, Keeps}
+use Rattle.far_keep.specs.Views.{FarsView, KeepsFars, far_root}
+use Rattle.far_keep.specs.declared.far_source.FarSource.{FarSource}
+use Rattle.far_keep.proofs.Views.{fars_after, fars_same}
+use Rattle.mix_mount.specs.Mounts as mount
+use Rattle.mix_mount.specs.Mounts.{Mounting, mounted_in}
+use Rattle.mix_reach.specs.declared.reached.Reached.{Reached}
+use Rattle.mix_reach.specs.declared.site.Site.{Site}
+use Rattle.mix_reach.specs.declared.site.Site.TheVariants.{Here, Far}
+use Rattle.table_keep.specs.Views.{TablesView}
+
+-- the site of a source's number; `Here` where there are not so many
+abbrev pub site_at : List Site → ℕ → Site
+site_at sites s = get_or sites s Here
+
+-- the state of sources: what is mounted, where each source is, what the sources of other machines mean, and how many fills were asked in all
+pub record Reaching : Type 0 where
+  pub mounted : Mounting
+  pub sites : List Site
+  pub fars : FarsView
+  pub fills : ℕ
+
+-- the state of sources, given what their tables and their sources of other machines mean
+abbrev pub reaching_in : {T R : Type 0} → (T → TablesView) → (R → FarsView) → Reached T R → Reaching
+reaching_in view far r = record { mounted = mounted_in view r.mounted; sites = r.sites.items; fars = far r.fars; fills = r.fills }
+
+-- the hole of a source's whole document, by where it is
+abbrev pub root_at : View → ℕ → Site → HoleId
+root_at v s Here = v.root s
+root_at v s (Far far) = far_root
+
+-- whether a source tells its document, by where it is
+abbrev pub told_at : View → FarsView → ℕ → Site → Bool
+told_at v fars s Here = v.told s
+told_at v fars s (Far far) = fars.told far
+
+-- whether a source knows a hole, by where it is
+abbrev pub knows_at : View → FarsView → ℕ → Site → HoleId → Bool
+knows_at v fars s Here = v.knows s
+knows_at v fars s (Far far) = fars.knows far
+
+-- the trees that a hole of a source stands for, by where it is
+abbrev pub forest_at : View → FarsView → ℕ → Site → HoleId → Forest
+forest_at v fars s Here = v.forest s
+forest_at v fars s (Far far) = fars.forest far
+
+-- the weight of a hole of a source, by where it is
+abbrev pub weight_at : View → FarsView → ℕ → Site → HoleId → ℕ
+weight_at v fars s Here = v.weight s
+weight_at v fars s (Far far) = fars.weight far
+
+-- whether no list of a source begins with a hole, by where it is: one of another machine that is told gives no such list
+abbrev pub forward_at : View → FarsView → ℕ → Site → Bool
+forward_at v fars s Here = v.forward s
+forward_at v fars s (Far far) = fars.told far
+
+-- how often a source failed, by where it is
+abbrev pub faults_at : View → FarsView → ℕ → Site → ℕ
+faults_at v fars s Here = v.faults s
+faults_at v fars s (Far far) = fars.faults far
+
+-- what mounted documents beside sources of other machines mean as sources
+abbrev pub view_of : Reaching → View
+view_of r =
+    let v = mount.view_of r.mounted in
+    record {
+      count = v.count;
+      root = λ s. root_at v s (site_at r.sites s);
+      told = λ s. told_at v r.fars s (site_at r.sites s);
+      knows = λ s. knows_at v r.fars s (site_at r.sites s);
+      forest = λ s. forest_at v r.fars s (site_at r.sites s);
+      weight = λ s. weight_at v r.fars s (site_at r.sites s);
+      forward = λ s. forward_at v r.fars s (site_at r.sites s);
+      small = λ s. true;
+      fills = r.fills;
+      faults = λ s. faults_at v r.fars s (site_at r.sites s);
+    }
+
+-- between two states no more pages were asked than fills, up to the end of the count of fills
+abbrev pub AreFewPages : Reaching → Reaching → Type 0
+AreFewPages old new = (new.mounted.tables.pages + old.fills ≤ old.mounted.tables.pages + new.fills) ⊎ (2 ^ 64 - 1 ≤ new.fills)
+
+-- from the old state came the new one: what is mounted came from what was, each source is where it was, other machines keep their documents, no count
+-- fell, and no more pages were asked than fills
+pub record CameFrom (old new : Reaching) : Type 0 where
+  pub mounted : mount.CameFrom old.mounted new.mounted
+  pub sites : new.sites ≡ old.sites
+  pub fars : KeepsFars old.fars new.fars
+  pub fills : old.fills ≤ new.fills
+  pub pages : AreFewPages old new
+
+-- from the old state came another by one fill that isn't counted yet: each source is where it was, and at most one page was asked
+pub record CameUncounted (old new : Reaching) : Type 0 where
+  pub mounted : mount.CameFrom old.mounted new.mounted
+  pub sites : new.sites ≡ old.sites
+  pub fars : KeepsFars old.fars new.fars
+  pub fills : new.fills ≡ old.fills
+  pub pages : new.mounted.tables.pages ≤ old.mounted.tables.pages + 1
+
+-- a state came from itself
+pub came_same : (a : Reaching) → CameFrom a a
+came_same a = record { mounted = mount.came_same a.mounted; sites = refl; fars = fars_same a.fars; fills = omega arith; pages = inl (omega arith) }
+
+-- no more pages than fills to a second state and from there to a third are no more from the first to the third
+pages_after : (a b c : Reaching) → b.fills ≤ c.fills → AreFewPages a b → AreFewPages b c → AreFewPages a c
+pages_after a b c h x (inr y) = inr y
+pages_after a b c h (inr x) (inl y) = inr (omega (arith, h, x))
+pages_after a b c h (inl x) (inl y) = inl (omega (arith, x, y))
+
+-- a state that came from one which came from a third came from that third
+pub came_after : (a b c : Reaching) → CameFrom a b → CameFrom b c → CameFrom a c
+came_after a b c x y = record {
+  mounted = mount.came_after a.mounted b.mounted c.mounted x.mounted y.mounted;
+  sites = y.sites ∙ x.sites;
+  fars = fars_after a.fars b.fars c.fars x.fars y.fars;
+  fills = omega (arith, x.fills, y.fills);
+  pages = pages_after a b c y.fills x.pages y.pages;
+}
+
+-- what is mounted keeps what calls keep, and so do sources of other machines
+module _ (old new : View) (fo fn : FarsView) (keeps : Keeps old new) (fars : KeepsFars fo fn) (s : ℕ) where
+  -- the hole of a source's whole document stays
+  root_kept : (site : Site) → root_at new s site ≡ root_at old s site
+  root_kept Here = keeps.root s
+  root_kept (Far far) = refl
+
+  -- a source tells its document exactly where it did before
+  told_kept : (site : Site) → told_at new fn s site ≡ told_at old fo s site
+  told_kept Here = keeps.told s
+  told_kept (Far far) = fars.told far
+
+  -- a source gives no list that begins with a hole exactly where it gave none before
+  forward_kept : (site : Site) → forward_at new fn s site ≡ forward_at old fo s site
+  forward_kept Here = keeps.forward s
+  forward_kept (Far far) = fars.told far
+
+  -- each hole that a source knew it knows
+  knows_kept : (h : HoleId) (site : Site) → knows_at old fo s site h ≡ true → knows_at new fn s site h ≡ true
+  knows_kept h Here k = keeps.knows s h k
+  knows_kept h (Far far) k = fars.knows far h k
+
+  -- each hole that a source knew stands for the same trees
+  forest_kept : (h : HoleId) (site : Site) → knows_at old fo s site h ≡ true → forest_at new fn s site h ≡ forest_at old fo s site h
+  forest_kept h Here k = keeps.forest s h k
+  forest_kept h (Far far) k = fars.forest far h k
+
+  -- each hole that a source knew weighs the same
+  weight_kept : (h : HoleId) (site : Site) → knows_at old fo s site h ≡ true → weight_at new fn s site h ≡ weight_at old fo s site h
+  weight_kept h Here k = keeps.weight s h k
+  weight_kept h (Far far) k = fars.weight far h k
+
+  -- a source's count of faults doesn't fall
+  faults_kept : (site : Site) → faults_at old fo s site ≤ faults_at new fn s site
+  faults_kept Here = keeps.faults s
+  faults_kept (Far far) = fars.faults far
+
+-- a state keeps what every call keeps of each state that it came from
+pub came_keeps : (a b : Reaching) → CameFrom a b → Keeps (view_of a) (view_of b)
+came_keeps a b x =
+    let old = mount.view_of a.mounted in
+    let new = mount.view_of b.mounted in
+    let keeps = mount.came_keeps a.mounted b.mounted x.mounted in
+    record {
+      count = keeps.count;
+      root = λ s. ap (λ (sites : List Site). root_at new s (site_at sites s)) x.sites ∙ root_kept old new a.fars b.fars keeps x.fars s (site_at a.sites s);
+      told = λ s. ap (λ (sites : List Site). told_at new b.fars s (site_at sites s)) x.sites ∙ told_kept old new a.fars b.fars keeps x.fars s (site_at a.sites s);
+      forward = λ s. ap (λ (sites : List Site). forward_at new b.fars s (site_at sites s)) x.sites ∙ forward_kept old new a.fars b.fars keeps x.fars s (site_at a.sites s);
+      small = λ s. refl;
+      knows = λ s h k. ap (λ (sites : List Site). knows_at new b.fars s (site_at sites s) h) x.sites ∙ knows_kept old new a.fars b.fars keeps x.fars s h (site_at a.sites s) k;
+      forest = λ s h k. ap (λ (sites : List Site). forest_at new b.fars s (site_at sites s) h) x.sites ∙ forest_kept old new a.fars b.fars keeps x.fars s h (site_at a.sites s) k;
+      weight = λ s h k. ap (λ (sites : List Site). weight_at new b.fars s (site_at sites s) h) x.sites ∙ weight_kept old new a.fars b.fars keeps x.fars s h (site_at a.sites s) k;
+      fills = x.fills;
+      faults = λ s.
+          subst (λ (sites : List Site). faults_at old a.fars s (site_at a.sites s) ≤ faults_at new b.fars s (site_at sites s)) (sym x.sites)
+          (faults_kept old new a.fars b.fars keeps x.fars s (site_at a.sites s));
+    }
+
+-- each source knows the hole of its whole document, where those of other machines do
+pub reached_root_known : (a : Reaching) → ((far : FarSource) → a.fars.knows far far_root ≡ true) → (s : ℕ) → s < (view_of a).count → (view_of a).knows s ((view_of a).root s) ≡ true
+reached_root_known a far_known s h = known (site_at a.sites s)
+  where
+    known : (site : Site) → knows_at (mount.view_of a.mounted) a.fars s site (root_at (mount.view_of a.mounted) s site) ≡ true
+    known Here = mount.mounted_root_known a.mounted s h
+    known (Far far) = far_known far
+
+-- each list that sources answer is small
+pub all_small : (a : Reaching) (s : ℕ) → s < (view_of a).count → (view_of a).small s ≡ true
+all_small a s h = refl

@@ -1,0 +1,74 @@
+// Where the sources of a catalog are: here, or at another machine.
+ghost use Rattle.std.specs.Prelude.{◌≡◌, IfOk, cond};
+ghost use Rattle.mix_reach.specs.declared.site.Site.TheVariants.{Here};
+ghost use Rattle.mix_top.specs.Course.{every};
+ghost use Rattle.mix_top.specs.Documents.{far_in};
+ghost use Rattle.mix_top.specs.Mounting.{AreSites, site_by};
+ghost use Rattle.plan_core.specs.PlanMade.{plan_value};
+ghost use Rattle.view_class.specs.Reads.{reads_source};
+
+use far_keep::FarSource;
+use mix_catalog::{Catalog, SourceKind, SourceSpec};
+use mix_reach::Site;
+use plan_core::Plan;
+use std::alloc::{AllocError, Global};
+use view_class::reads_source;
+
+// Where a source is.
+fn read_site(alloc: Global, spec: &SourceSpec) -> Result<Site, AllocError>
+    ensures { IfOk result (λ site. site ≡ site_by (far_in spec.now.kind)) }
+{
+    match &spec.kind {
+        SourceKind::Remote {
+            replies,
+            requests,
+            number,
+        } => {
+            let replies = replies.copy(alloc)?;
+            let requests = requests.copy(alloc)?;
+            let number = *number;
+            Ok(Site::Far(FarSource {
+                replies,
+                requests,
+                number,
+            }))
+        }
+        SourceKind::Bracket { .. } | SourceKind::Csv { .. } | SourceKind::Table { .. } => {
+            Ok(Site::Here)
+        }
+    }
+}
+
+// Where a source is for a plan: here, where the plan doesn't read it.
+fn read_site_for(alloc: Global, plan: &Plan, s: u32, spec: &SourceSpec) -> Result<Site, AllocError>
+    ensures { let reads = reads_source (plan_value plan.now).ops in
+        IfOk result (λ site. site ≡ cond (reads s) (site_by (far_in spec.now.kind)) Here) }
+{
+    if reads_source(plan, s) {
+        read_site(alloc, spec)
+    } else {
+        Ok(Site::Here)
+    }
+}
+
+/// Where each source of a catalog is for a plan, by its number: at another machine where the plan reads it and the catalog says so, else here.
+pub fn read_sites(alloc: Global, catalog: &Catalog, plan: &Plan) -> Result<Vec<Site>, AllocError>
+    ensures { IfOk result (λ sites. AreSites (reads_source (plan_value plan.now).ops) catalog.now sites.items) }
+{
+    let mut sites = Vec::new(alloc);
+    for s in 0..catalog.len() {
+        sites.push(read_site_for(alloc, plan, s, catalog.spec(s))?)?;
+    }
+    Ok(sites)
+}
+
+/// Where each source of a catalog is, by its number: at another machine where the catalog says so, else here.
+pub fn read_all_sites(alloc: Global, catalog: &Catalog) -> Result<Vec<Site>, AllocError>
+    ensures { IfOk result (λ sites. AreSites every catalog.now sites.items) }
+{
+    let mut sites = Vec::new(alloc);
+    for s in 0..catalog.len() {
+        sites.push(read_site(alloc, catalog.spec(s))?)?;
+    }
+    Ok(sites)
+}

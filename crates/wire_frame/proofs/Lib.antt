@@ -1,0 +1,4 @@
+pub mod Framed
+pub mod Passing
+pub mod Standings
+pub mod Taking
