@@ -8,5 +8,7 @@ mod session;
 mod source;
 mod walker;
 
+pub use printing::print;
+pub use searching::select;
 pub use session::Session;
 pub use walker::{Found, Walker};
