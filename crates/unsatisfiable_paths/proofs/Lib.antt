@@ -1,0 +1,4 @@
+pub mod Found
+pub mod KnownNodes
+pub mod Sets
+pub mod Unmatched
