@@ -1,6 +1,6 @@
 -- A path that finds nothing by the layouts has no match in documents that are laid out so.
 use Rattle.std.proofs.Common.{◌≡◌, inl, inr, ℕ, ◌<◌, true, false, cond, List, [], ◌∷◌, refl, sym, ap, subst, ◌∙◌, arith, length, map}
-use Rattle.std.specs.Prelude.{Option, Some, None}
+use Rattle.std.specs.Prelude.{None}
 use Rattle.mix_base.specs.Ascents.{Among}
 use Rattle.mix_base.specs.Events.{Event, skip, bind, without_skips}
 use Rattle.mix_tree.specs.Forest.{none, tree, first_kids}
@@ -15,11 +15,10 @@ use Rattle.plan_core.specs.Beside.{EachBinding}
 use Rattle.plan_core.specs.Events.{events, EventsAreBindings}
 use Rattle.plan_core.specs.Plans.{PlanValue}
 use Rattle.plan_core.specs.Shapes.{Shape, one_source, visits_below, pairs_up, passes_on, no_events, shape_at}
-use Rattle.plan_core.specs.TolledRows.{TolledValue, of_source, element, trees, TolledRow, source_node, tolled_value, row_node, plain_row}
+use Rattle.plan_core.specs.TolledRows.{TolledRow, row_node, plain_row}
 use Rattle.plan_core.specs.Typed.{ValidIsTyped}
-use Rattle.plan_core.specs.Valid.{Kind, a_node, Kinds, kinds, IsValid}
+use Rattle.plan_core.specs.Valid.{kinds, IsValid}
 use Rattle.plan_core.proofs.Bindings.{binding_weaker}
-use Rattle.browse_profile.specs.declared.profile.Profile.{Profile}
 use Rattle.browse_visit.specs.declared.shape.Shape.{Shape as SourceShape}
 use Rattle.browse_visit.specs.declared.shape.Sort.TheVariants.{Anything}
 use Rattle.browse_visit.specs.declared.shape.Sorts.{Sorts}
@@ -29,14 +28,16 @@ use Rattle.browse_visit.specs.Samples.{sample_labels}
 use Rattle.browse_visit.specs.Shapes.{shape_at as source_shape, shapes_of}
 use Rattle.browse_visit.specs.SortSet.{IsSet}
 use Rattle.browse_visit.specs.Visits.{layouts_found}
-use Rattle.browse_class.specs.Bound.{IsValue, HasValue, IsBound}
+use Rattle.browse_class.specs.Bound.{IsBound}
 use Rattle.browse_class.specs.Classes.{KnownOfEvents}
-use Rattle.browse_class.specs.Facts.{Facts, facts}
+use Rattle.browse_class.specs.Facts.{facts}
 use Rattle.unsatisfiable_paths.specs.declared.path.UnsatisfiablePath.{UnsatisfiablePath}
-use Rattle.unsatisfiable_paths.specs.Law.{LiesAmong, HasNoMatch, StartsAmong, AreUnsatisfiable, UnsatisfiableHaveNoMatch}
+use Rattle.unsatisfiable_paths.specs.Law.{LiesAmong, IsStart, HasNoMatch, StartsThere, AreUnsatisfiable, UnsatisfiableHaveNoMatch}
 use Rattle.unsatisfiable_paths.specs.Unsatisfiable.{finds_nothing, starting, plan_nodes, unsatisfiable_at}
 use Rattle.unsatisfiable_paths.proofs.Found.{each_among, out_kind, start_kind, input_before, out_layouts, lies_among}
+use Rattle.unsatisfiable_paths.proofs.Rows.{InSource, row_laid, binding_both}
 use Rattle.unsatisfiable_paths.proofs.Sets.{is_nil, gives_none}
+use Rattle.unsatisfiable_paths.proofs.Sources.{each_in}
 
 -- events of which no binding can be have none
 no_binding : {B : Type 0} (P : B → Type 0) → ((x : B) → P x → ⊥) → (es : List (Event B)) → EachBinding P es → without_skips es ≡ []
@@ -52,19 +53,6 @@ no_match laid matches docs path gs e start n h m =
     let empty = no_binding (λ (place : List ℕ). IsBelow [] (first_kids (trees_at whole place))) (λ place q. q.1) (visits docs path start) (rw e at (laid path gs whole start.place h).kinds) in
     let among : Among n.place (without_skips (visits docs path start)) = ((matches docs path start).exactly n.place).1 m.1 in
     subst (Among n.place) empty among
-
--- the trees below the node that a value is are laid out as its layouts say
-value_laid : (docs : Documents) (gs : List Layout) (p : Profile) (x : TolledValue) → IsValue docs None a_node gs p x → IsLaidAt docs gs (source_node x)
-value_laid docs gs p (of_source n) h = h
-value_laid docs gs p (element label kids) h = absurd h
-value_laid docs gs p (trees f) h = absurd h
-
--- in a binding that is as is known, the trees below the node of a variable are laid out as its layouts say
-row_laid : (docs : Documents) (ks : Kinds) (f : Facts) (v : ℕ) → ks v ≡ Some a_node → (row : TolledRow) → IsBound docs None ks f row → IsLaidAt docs (f.layouts v) (row_node row v)
-row_laid docs ks f v e row h = value_laid docs (f.layouts v) (f.lists v) (tolled_value row v) (of_node (ks v) e (h v []))
-  where
-    of_node : (k : Option Kind) → k ≡ Some a_node → HasValue docs None k (f.layouts v) (f.lists v) row [] v → IsValue docs None a_node (f.layouts v) (f.lists v) (tolled_value row v)
-    of_node k e h = (subst (λ (j : Option Kind). HasValue docs None j (f.layouts v) (f.lists v) row [] v) e h).1
 
 -- where the trees below a node are laid out by one of a set's layouts, it lies among the set's sorts
 node_among : (docs : Documents) (shape : SourceShape) (k : Sorts) (gs : List Layout) → IsSet shape k gs → (n : Node) → IsLaidAt docs gs n → LiesAmong docs shape k n
@@ -106,13 +94,18 @@ module _ (typing : ValidIsTyped) (knowing : KnownOfEvents) (laying : VisitsAreAs
           (events docs p.ops n)
           (knowing (shapes_of shapes) p valid docs laid n b).bound
 
-      -- what holds of each node that is laid out as those where the path starts holds of each start
-      starts : (docs : Documents) → AreLaid (shapes_of shapes) docs → (Q : Node → Type 0) → ((m : Node) → IsLaidAt docs gs m → Q m) → EachBinding (λ row. Q (row_node row start)) (events docs p.ops input)
+      -- what holds of each node of its source that is laid out as those where the path starts holds of each start
+      starts : (docs : Documents) → AreLaid (shapes_of shapes) docs → (Q : Node → Type 0) → ((m : Node) → m.source ≡ (plan_nodes shapes p.ops start).source → IsLaidAt docs gs m → Q m)
+          → EachBinding (λ row. Q (row_node row start)) (events docs p.ops input)
       starts docs laid Q h =
-          binding_weaker (IsBound docs None (kinds p.ops input) (facts (shapes_of shapes) p.ops input)) (λ row. Q (row_node row start))
-          (λ row bound. h (row_node row start) (row_laid docs (kinds p.ops input) (facts (shapes_of shapes) p.ops input) start (start_kind p (typing p valid) n b input start out path e) row bound))
+          let kind = start_kind p (typing p valid) n b input start out path e in
+          let Known : TolledRow → Type 0 = IsBound docs None (kinds p.ops input) (facts (shapes_of shapes) p.ops input) in
+          let Lying : TolledRow → Type 0 = InSource (λ v. (plan_nodes shapes p.ops v).source) (kinds p.ops input) in
+          binding_weaker (λ row. Known row × Lying row) (λ row. Q (row_node row start))
+          (λ row both. h (row_node row start) (both.1 start kind) (row_laid docs (kinds p.ops input) (facts (shapes_of shapes) p.ops input) start kind row both.0))
           (events docs p.ops input)
-          (knowing (shapes_of shapes) p valid docs laid input input_there).bound
+          (binding_both Known Lying (events docs p.ops input) (knowing (shapes_of shapes) p valid docs laid input input_there).bound
+          (each_in shapes p valid (typing p valid) knowing docs laid input input_there))
 
       -- the path is unsatisfiable
       unsatisfiable : AreUnsatisfiable shapes p (starting n (plan_nodes shapes p.ops start))
@@ -122,11 +115,11 @@ module _ (typing : ValidIsTyped) (knowing : KnownOfEvents) (laying : VisitsAreAs
             documents = λ docs laid. record {
               number = b;
               starts =
-                  subst (StartsAmong docs (source_shape shapes from.source) from.sorts (events docs p.ops)) (sym e)
-                  (starts docs laid (LiesAmong docs (source_shape shapes from.source) from.sorts) (node_among docs (source_shape shapes from.source) from.sorts gs start_set));
+                  subst (StartsThere docs shapes (starting n from) (events docs p.ops)) (sym e)
+                  (starts docs laid (IsStart docs shapes (starting n from)) (λ m own h. (own, node_among docs (source_shape shapes from.source) from.sorts gs start_set m h)));
               matches =
                   subst (HasNoMatch docs (events docs p.ops)) (sym e)
-                  (starts docs laid (λ m. (q : Node) → IsMatch docs path m q → ⊥) (λ m h q. no_match laying matching docs path gs empty m q h));
+                  (starts docs laid (λ m. (q : Node) → IsMatch docs path m q → ⊥) (λ m own h q. no_match laying matching docs path gs empty m q h));
               unbound = unbound docs laid;
               bindings = sym (binding p valid docs n b) ∙ ap (map plain_row) (unbound docs laid);
             };

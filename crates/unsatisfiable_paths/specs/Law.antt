@@ -22,6 +22,10 @@ use Rattle.unsatisfiable_paths.specs.Unsatisfiable.{unsatisfiable_in}
 abbrev pub LiesAmong : Documents → SourceShape → Sorts → Node → Type 0
 LiesAmong docs shape k n = (s : Sort) × (has_sort k s ≡ true) × IsLaid (sort_layout shape s) (kids_at docs n)
 
+-- a node is as the start of a path is told: of its source, and among its sorts
+abbrev pub IsStart : Documents → List SourceShape → UnsatisfiablePath → Node → Type 0
+IsStart docs shapes x n = (n.source ≡ x.source) × LiesAmong docs (source_shape shapes x.source) x.from n
+
 -- a shape has a path, and it leads nowhere from the start's node of any binding of its input
 abbrev pub HasNoMatch : Documents → (ℕ → RowEvents) → Shape → Type 0
 HasNoMatch docs of (one_source s out) = ⊥
@@ -30,18 +34,18 @@ HasNoMatch docs of (pairs_up left right tests) = ⊥
 HasNoMatch docs of (passes_on input stage) = ⊥
 HasNoMatch docs of (no_events input made) = ⊥
 
--- a shape has a path, and the start's node of each binding of its input lies among these sorts
-abbrev pub StartsAmong : Documents → SourceShape → Sorts → (ℕ → RowEvents) → Shape → Type 0
-StartsAmong docs shape k of (one_source s out) = ⊥
-StartsAmong docs shape k of (visits_below input start path out) = EachBinding (λ row. LiesAmong docs shape k (row_node row start)) (of input)
-StartsAmong docs shape k of (pairs_up left right tests) = ⊥
-StartsAmong docs shape k of (passes_on input stage) = ⊥
-StartsAmong docs shape k of (no_events input made) = ⊥
+-- a shape has a path, and the start's node of each binding of its input is as is told
+abbrev pub StartsThere : Documents → List SourceShape → UnsatisfiablePath → (ℕ → RowEvents) → Shape → Type 0
+StartsThere docs shapes x of (one_source s out) = ⊥
+StartsThere docs shapes x of (visits_below input start path out) = EachBinding (λ row. IsStart docs shapes x (row_node row start)) (of input)
+StartsThere docs shapes x of (pairs_up left right tests) = ⊥
+StartsThere docs shapes x of (passes_on input stage) = ⊥
+StartsThere docs shapes x of (no_events input made) = ⊥
 
 -- an operator's path starts where it is told to, has no match from there, and the operator has no binding
 pub record IsUnsatisfiable (docs : Documents) (shapes : List SourceShape) (ops : List Operator) (x : UnsatisfiablePath) : Type 0 where
   pub number : x.op < length ops
-  pub starts : StartsAmong docs (source_shape shapes x.source) x.from (events docs ops) (shape_at ops x.op)
+  pub starts : StartsThere docs shapes x (events docs ops) (shape_at ops x.op)
   pub matches : HasNoMatch docs (events docs ops) (shape_at ops x.op)
   pub unbound : without_skips (events docs ops x.op) ≡ []
   pub bindings : rows_of (visited docs) ops x.op ≡ []
@@ -53,4 +57,6 @@ pub record AreUnsatisfiable (shapes : List SourceShape) (p : PlanValue) (x : Uns
 
 -- the paths of a valid plan that match nothing by what is known of its sources match nothing
 abbrev pub UnsatisfiableHaveNoMatch : Type 0
-UnsatisfiableHaveNoMatch = (shapes : List SourceShape) (p : PlanValue) → IsValid p → (x : UnsatisfiablePath) → Among x (unsatisfiable_in shapes p.ops) → AreUnsatisfiable shapes p x
+UnsatisfiableHaveNoMatch =
+    (shapes : List SourceShape) (p : PlanValue) → IsValid p → (x : UnsatisfiablePath) → Among x (unsatisfiable_in shapes p.ops)
+    → AreUnsatisfiable shapes p x
