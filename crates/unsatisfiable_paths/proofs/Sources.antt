@@ -162,18 +162,21 @@ module _ (shapes : List SourceShape) (p : PlanValue) (valid : IsValid p) (typed 
     shape_in n b (visits_below i start path out) e small h =
         let kind = start_kind p typed n b i start out path e in
         let l = small.0 in
-        let Q : TolledRow → Type 0 = InSource source_of (with_kind out a_node (kinds p.ops i)) in
-        binding_expand (λ row. IsKnown i row × IsIn i row) (InSource source_of (with_kind out a_node (kinds p.ops i))) (descendants docs start path out)
-        (λ row both. binding_nodes (InSource source_of (with_kind out a_node (kinds p.ops i))) out (row_node row start) row
-        (λ place. with_more source_of (kinds p.ops i) out a_node (of_source (record { source = (row_node row start).source; place = place })) row
-        (λ q. both.1 start kind ∙ (let laid_at = row_laid docs (kinds p.ops i) (facts (shapes_of shapes) p.ops i) start kind row both.0 in path_source n i start out path b e l laid_at.0 laid_at.1)) both.1)
+        let Lying : TolledRow → Type 0 = InSource source_of (with_kind out a_node (kinds p.ops i)) in
+        binding_expand (λ row. IsKnown i row × IsIn i row) Lying (descendants docs start path out)
+        (λ row both.
+        let there = row_laid docs (kinds p.ops i) (facts (shapes_of shapes) p.ops i) start kind row both.0 in
+        let source : (row_node row start).source ≡ source_of out = both.1 start kind ∙ path_source n i start out path b e l there.0 there.1 in
+        binding_nodes Lying out (row_node row start) row
+        (λ place. with_more source_of (kinds p.ops i) out a_node (of_source (record { source = (row_node row start).source; place = place })) row (λ q. source) both.1)
         (visits docs path (row_node row start)))
         (events docs p.ops i) (binding_both (IsKnown i) (IsIn i) (events docs p.ops i) (bound i (omega (arith, l, b))) (h i l))
     shape_in n b (pairs_up left right tests) e small h =
         let l = small.0 in
-        binding_expand (λ row. IsKnown left row × IsIn left row) (InSource source_of (λ v. either_kind (kinds p.ops left v) (kinds p.ops right v))) (pairs docs tests (events docs p.ops right))
-        (λ row both. binding_only (InSource source_of (λ v. either_kind (kinds p.ops left v) (kinds p.ops right v))) (passes_all docs tests) (each_row (λ more. row ++ more) (events docs p.ops right))
-        (binding_each_row (IsIn right) (InSource source_of (λ v. either_kind (kinds p.ops left v) (kinds p.ops right v))) (λ more. row ++ more)
+        let Lying : TolledRow → Type 0 = InSource source_of (λ v. either_kind (kinds p.ops left v) (kinds p.ops right v)) in
+        binding_expand (λ row. IsKnown left row × IsIn left row) Lying (pairs docs tests (events docs p.ops right))
+        (λ row both. binding_only Lying (passes_all docs tests) (each_row (λ more. row ++ more) (events docs p.ops right))
+        (binding_each_row (IsIn right) Lying (λ more. row ++ more)
         (λ more q. pair_in source_of docs (kinds p.ops left) (kinds p.ops right) (facts (shapes_of shapes) p.ops left) row more both.0 both.1 q)
         (events docs p.ops right) (h right small.1.0)))
         (events docs p.ops left) (binding_both (IsKnown left) (IsIn left) (events docs p.ops left) (bound left (omega (arith, l, b))) (h left l))
