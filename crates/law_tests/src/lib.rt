@@ -1,4 +1,4 @@
-//! Tests of labels, trees, identifiers, paths, catalogs and rules that only a call of a library shows, and calls of their laws.
+//! Tests of labels, trees, identifiers, paths, catalogs, rules and unsatisfiable paths that only a call of a library shows, and calls of their laws.
 #![tactic(auto)]
 
 #[cfg(test)]
@@ -19,3 +19,5 @@ mod remotes;
 mod rules;
 #[cfg(test)]
 mod tables;
+#[cfg(test)]
+mod unsatisfiable;
