@@ -70,20 +70,10 @@ module _ (p : PlanValue) (valid : IsValid p) (t : Turn) (turn : IsTurn p.ops t) 
 
 -- TURNS
 
--- a test that was read at an index of a list
-index_is : (xs : List Bool) (i : ℕ) (b : Bool) → i < length xs → b ≡ slice_index_or xs i b → b ≡ slice_index_or xs i false
-index_is [] i b l e = absurd (omega (arith, l))
-index_is (x ∷ xs) zero b l e = e
-index_is (x ∷ xs) (suc i) b l e = index_is xs i b (omega (arith, l)) e
-
 -- it is the turn of an operator that the list reaches
-pub turn_is : (p : PlanValue) (w : Wanted) → IsWanted p.ops w → (way : List Bool) (i : ℕ) (b : Bool) → IsWay p.ops w.op way → length way ≡ suc w.op → i < length way → b ≡ slice_index_or way i b
-    → IsTurn p.ops (record { wanted = w; op = i; on_way = b })
-turn_is p w wanted way i b is many l e = record {
-  within = (let k = wanted.within in omega (arith, k, many, l));
-  is_wanted = wanted;
-  way = index_is way i b l e ∙ is i;
-}
+pub turn_is : (p : PlanValue) (w : Wanted) → IsWanted p.ops w → (way : List Bool) (i : ℕ) → IsWay p.ops w.op way → length way ≡ suc w.op → i < length way
+    → IsTurn p.ops (record { wanted = w; op = i; on_way = slice_index_or way i false })
+turn_is p w wanted way i is many l = record { within = (let k = wanted.within in omega (arith, k, many, l)); is_wanted = wanted; way = is i }
 
 -- so many visits were counted as evidence has variables
 pub counted : (os os' : List Op) (n count : ℕ) (way way' : List Bool) → os' ≡ os → way' ≡ way → IsWay (map op_of os) n way → length way ≡ suc n

@@ -1,21 +1,11 @@
-use Rattle.std.proofs.Common.{rules, arith, ◌≡◌, ◌∙◌, ◌<◌, ◌+◌, ℕ, suc, List, true, false, inl, inr, sym, ap, subst, length, take, map}
+use Rattle.std.proofs.Common.{arith, ◌≡◌, ◌∙◌, ◌<◌, suc, List, sym, ap, subst, length, map}
 use Rattle.plan_core.specs.declared.plan.Op.{Op}
 use Rattle.plan_core.specs.declared.plan.Plan.{Plan}
 use Rattle.plan_core.specs.PlanMade.{op_of, plan_value}
-use Rattle.plan_core.specs.Shapes.{shape_at}
-use Rattle.plan_evidence.specs.Evidence.{is_on_way, evidence_vars, ShapeHolds}
 use Rattle.lazy_plan.specs.Bench.{state_of, documents}
-use Rattle.lazy_seek.specs.declared.evidence.Turn.{Turn}
-use Rattle.lazy_seek.specs.declared.evidence.Wanted.{Wanted}
-use Rattle.lazy_seek.specs.Evidenced.{reaches, AreSpotsOf}
-use Rattle.lazy_seek.specs.Given.{vars_below, given}
-use Rattle.lazy_seek.specs.Turns.{nodes_wanted, IsWanted, Knows, turn_reach, GoesOn}
 use Rattle.lazy_seek.specs.Ways.{IsWay}
 use Rattle.lazy_seek.proofs.Drafts.{vars_are}
-use Rattle.lazy_seek.proofs.Knowing.{below_or}
-use Rattle.lazy_seek.proofs.Visiting.{sought_within}
-use Rattle.lazy_seek.proofs.Walks.{sought_none, sought_then}
-use Rattle.lazy_seek.proofs.Wholes.{reaches_front, evidence_length, walked_on, turn_is, counted, holds_back, holds_forth, turn_on, ops_back, no_evidence, is_evidence, spots_given}
+use Rattle.lazy_seek.proofs.Wholes.{evidence_length, counted}
 use Rattle.lazy_seek.proofs.seeking.sought.Goals as goal
 
 pub returns-then-count_visits-places-clause-answer : goal.returns-then-count_visits-places-clause-answer
@@ -33,19 +23,8 @@ returns-then-count_visits-places-clause-answer g c =
     c.if-count_visits-places.true
     (count ∙ sym (ap length (vars_are p c.requires.bench.valid c.args.op within)) ∙ evidence_length (documents a) p.ops c.args.op c.args.places.now nodes is)
 
-pub loop-i-init : goal.loop-i-init
-loop-i-init g c =
-    let a = state_of (g.S.Sources.view c.args.s.now) c.args.bench.now in
-    let p = plan_value c.args.bench.now.fixed.plan in record {
-      sought =
-          sought_within 0 _ c.args.s.now c.args.s.now c.args.bench.now c.args.bench.now (sought_none g.met.S.Sources.same c.args.s.now c.args.bench.now c.requires.bench) (omega arith);
-      knows = c.new-found.ensures a p.ops (record { op = c.args.op; places = c.args.places });
-      right = λ told j l o. absurd (omega (arith, l));
-    }
-
-pub goes_on-requires-clause-turn : goal.goes_on-requires-clause-turn
-goes_on-requires-clause-turn g c =
-    let a = state_of (g.S.Sources.view c.args.s.now) c.args.bench.now in
+pub sought_along-requires-clause-wanted : goal.sought_along-requires-clause-wanted
+sought_along-requires-clause-wanted g c =
     let p = plan_value c.args.bench.now.fixed.plan in
     let within : c.args.op < length p.ops = (let r = c.requires.op in omega (arith, r)) in
     let ops_is = c.deref.ensures.value ∙ ap (λ (q : Plan). q.ops.items) c.plan.ensures in
@@ -54,170 +33,4 @@ goes_on-requires-clause-turn g c =
     let count =
     counted c.args.bench.now.fixed.plan.ops.items c.deref-2.result.now c.args.op c.count_visits.result c.in_ok-way.way.items c.deref-3.result.now
     (c.deref-2.ensures.value ∙ ap (λ (q : Plan). q.ops.items) c.plan-2.ensures) c.deref-3.ensures.value is_way many (c.count_visits.ensures c.args.op) in
-    let w : Wanted = record { op = c.args.op; places = c.args.places } in
-    let wanted : IsWanted p.ops w = record { within = within; places = ap length (vars_are p c.requires.bench.valid c.args.op within) ∙ sym count ∙ c.if-count_visits-places.false } in
-    let b = state_of (g.S.Sources.view c.loop-i.s) c.loop-i.bench in
-    let kept = c.loop-i.invariant.sought.ran.kept in
-    let below : c.loop-i.i < length c.in_ok-way.way.items = (let r = c.loop-i-test.true in first_of (omega (arith, r), search rules)) in
-    let t : Turn = record { wanted = w; op = c.loop-i.i; on_way = c.index.result.now } in
-    let turn = turn_is p w wanted c.in_ok-way.way.items c.loop-i.i c.index.result.now is_way many below c.index.ensures in
-    turn_on a b kept t turn
-
-pub returns-in_err-goes_on-clause-sought : goal.returns-in_err-goes_on-clause-sought
-returns-in_err-goes_on-clause-sought g c =
-    let a = state_of (g.S.Sources.view c.args.s.now) c.args.bench.now in
-    let p = plan_value c.args.bench.now.fixed.plan in
-    let within : c.args.op < length p.ops = (let r = c.requires.op in omega (arith, r)) in
-    let ops_is = c.deref.ensures.value ∙ ap (λ (q : Plan). q.ops.items) c.plan.ensures in
-    let is_way = subst (λ (os : List Op). IsWay (map op_of os) c.args.op c.in_ok-way.way.items) ops_is c.in_ok-way.ensures.way in
-    let many : length c.in_ok-way.way.items ≡ suc c.args.op = (let r = c.in_ok-way.ensures.length in omega (arith, r)) in
-    let count =
-    counted c.args.bench.now.fixed.plan.ops.items c.deref-2.result.now c.args.op c.count_visits.result c.in_ok-way.way.items c.deref-3.result.now
-    (c.deref-2.ensures.value ∙ ap (λ (q : Plan). q.ops.items) c.plan-2.ensures) c.deref-3.ensures.value is_way many (c.count_visits.ensures c.args.op) in
-    let w : Wanted = record { op = c.args.op; places = c.args.places } in
-    let wanted : IsWanted p.ops w = record { within = within; places = ap length (vars_are p c.requires.bench.valid c.args.op within) ∙ sym count ∙ c.if-count_visits-places.false } in
-    let b = state_of (g.S.Sources.view c.loop-i.s) c.loop-i.bench in
-    let kept = c.loop-i.invariant.sought.ran.kept in
-    let below : c.loop-i.i < length c.in_ok-way.way.items = (let r = c.loop-i-test.true in first_of (omega (arith, r), search rules)) in
-    let t : Turn = record { wanted = w; op = c.loop-i.i; on_way = c.index.result.now } in
-    let turn = turn_is p w wanted c.in_ok-way.way.items c.loop-i.i c.index.result.now is_way many below c.index.ensures in
-    let far = ap (λ (q : Plan). turn_reach (plan_value q).ops t) kept.plan in
-    let walked = walked_on p c.requires.bench.valid t turn in
-    let front = reaches_front (length (vars_below p.ops c.args.op (suc c.loop-i.i))) c.args.places.now in
-    sought_then g.met.S.Sources.after (reaches (take (length (vars_below p.ops c.args.op c.loop-i.i)) c.args.places.now)) (turn_reach (plan_value c.loop-i.bench.fixed.plan).ops t) (reaches c.args.places.now)
-    c.args.s.now c.loop-i.s c.goes_on.new.s c.args.bench.now c.loop-i.bench c.goes_on.new.bench c.loop-i.invariant.sought c.goes_on.ensures.sought.ran c.goes_on.ensures.sought.asks
-    (omega (arith, far, walked, front))
-
-pub returns-then-not-branch-clause-sought : goal.returns-then-not-branch-clause-sought
-returns-then-not-branch-clause-sought g c =
-    let a = state_of (g.S.Sources.view c.args.s.now) c.args.bench.now in
-    let p = plan_value c.args.bench.now.fixed.plan in
-    let within : c.args.op < length p.ops = (let r = c.requires.op in omega (arith, r)) in
-    let ops_is = c.deref.ensures.value ∙ ap (λ (q : Plan). q.ops.items) c.plan.ensures in
-    let is_way = subst (λ (os : List Op). IsWay (map op_of os) c.args.op c.in_ok-way.way.items) ops_is c.in_ok-way.ensures.way in
-    let many : length c.in_ok-way.way.items ≡ suc c.args.op = (let r = c.in_ok-way.ensures.length in omega (arith, r)) in
-    let count =
-    counted c.args.bench.now.fixed.plan.ops.items c.deref-2.result.now c.args.op c.count_visits.result c.in_ok-way.way.items c.deref-3.result.now
-    (c.deref-2.ensures.value ∙ ap (λ (q : Plan). q.ops.items) c.plan-2.ensures) c.deref-3.ensures.value is_way many (c.count_visits.ensures c.args.op) in
-    let w : Wanted = record { op = c.args.op; places = c.args.places } in
-    let wanted : IsWanted p.ops w = record { within = within; places = ap length (vars_are p c.requires.bench.valid c.args.op within) ∙ sym count ∙ c.if-count_visits-places.false } in
-    let b = state_of (g.S.Sources.view c.loop-i.s) c.loop-i.bench in
-    let kept = c.loop-i.invariant.sought.ran.kept in
-    let below : c.loop-i.i < length c.in_ok-way.way.items = (let r = c.loop-i-test.true in first_of (omega (arith, r), search rules)) in
-    let t : Turn = record { wanted = w; op = c.loop-i.i; on_way = c.index.result.now } in
-    let turn = turn_is p w wanted c.in_ok-way.way.items c.loop-i.i c.index.result.now is_way many below c.index.ensures in
-    let far = ap (λ (q : Plan). turn_reach (plan_value q).ops t) kept.plan in
-    let walked = walked_on p c.requires.bench.valid t turn in
-    let front = reaches_front (length (vars_below p.ops c.args.op (suc c.loop-i.i))) c.args.places.now in
-    sought_then g.met.S.Sources.after (reaches (take (length (vars_below p.ops c.args.op c.loop-i.i)) c.args.places.now)) (turn_reach (plan_value c.loop-i.bench.fixed.plan).ops t) (reaches c.args.places.now)
-    c.args.s.now c.loop-i.s c.goes_on.new.s c.args.bench.now c.loop-i.bench c.goes_on.new.bench c.loop-i.invariant.sought c.goes_on.ensures.sought.ran c.goes_on.ensures.sought.asks
-    (omega (arith, far, walked, front))
-
-pub returns-then-not-branch-clause-answer : goal.returns-then-not-branch-clause-answer
-returns-then-not-branch-clause-answer g c =
-    let a = state_of (g.S.Sources.view c.args.s.now) c.args.bench.now in
-    let p = plan_value c.args.bench.now.fixed.plan in
-    let within : c.args.op < length p.ops = (let r = c.requires.op in omega (arith, r)) in
-    let ops_is = c.deref.ensures.value ∙ ap (λ (q : Plan). q.ops.items) c.plan.ensures in
-    let is_way = subst (λ (os : List Op). IsWay (map op_of os) c.args.op c.in_ok-way.way.items) ops_is c.in_ok-way.ensures.way in
-    let many : length c.in_ok-way.way.items ≡ suc c.args.op = (let r = c.in_ok-way.ensures.length in omega (arith, r)) in
-    let count =
-    counted c.args.bench.now.fixed.plan.ops.items c.deref-2.result.now c.args.op c.count_visits.result c.in_ok-way.way.items c.deref-3.result.now
-    (c.deref-2.ensures.value ∙ ap (λ (q : Plan). q.ops.items) c.plan-2.ensures) c.deref-3.ensures.value is_way many (c.count_visits.ensures c.args.op) in
-    let w : Wanted = record { op = c.args.op; places = c.args.places } in
-    let wanted : IsWanted p.ops w = record { within = within; places = ap length (vars_are p c.requires.bench.valid c.args.op within) ∙ sym count ∙ c.if-count_visits-places.false } in
-    let b = state_of (g.S.Sources.view c.loop-i.s) c.loop-i.bench in
-    let kept = c.loop-i.invariant.sought.ran.kept in
-    let below : c.loop-i.i < length c.in_ok-way.way.items = (let r = c.loop-i-test.true in first_of (omega (arith, r), search rules)) in
-    let t : Turn = record { wanted = w; op = c.loop-i.i; on_way = c.index.result.now } in
-    let turn = turn_is p w wanted c.in_ok-way.way.items c.loop-i.i c.index.result.now is_way many below c.index.ensures in
-    let d = state_of (g.S.Sources.view c.goes_on.new.s) c.goes_on.new.bench in
-    let no : c.in_ok-goes_on.field-0 ≡ false = search rules in
-    let h = subst (GoesOn b d t c.goes_on.new.self) no c.in_ok-goes_on.ensures.answer in
-    λ told nodes is.
-    (let r = h (kept.told ∙ told) in
-    no_evidence p c.requires.bench.valid w wanted (documents a) c.loop-i.i turn.within (sym turn.way ∙ r.0) (λ x. r.1 (holds_forth a b kept t x)) nodes is)
-
-pub loop-i-preserved : goal.loop-i-preserved
-loop-i-preserved g c =
-    let a = state_of (g.S.Sources.view c.args.s.now) c.args.bench.now in
-    let p = plan_value c.args.bench.now.fixed.plan in
-    let within : c.args.op < length p.ops = (let r = c.requires.op in omega (arith, r)) in
-    let ops_is = c.deref.ensures.value ∙ ap (λ (q : Plan). q.ops.items) c.plan.ensures in
-    let is_way = subst (λ (os : List Op). IsWay (map op_of os) c.args.op c.in_ok-way.way.items) ops_is c.in_ok-way.ensures.way in
-    let many : length c.in_ok-way.way.items ≡ suc c.args.op = (let r = c.in_ok-way.ensures.length in omega (arith, r)) in
-    let count =
-    counted c.args.bench.now.fixed.plan.ops.items c.deref-2.result.now c.args.op c.count_visits.result c.in_ok-way.way.items c.deref-3.result.now
-    (c.deref-2.ensures.value ∙ ap (λ (q : Plan). q.ops.items) c.plan-2.ensures) c.deref-3.ensures.value is_way many (c.count_visits.ensures c.args.op) in
-    let w : Wanted = record { op = c.args.op; places = c.args.places } in
-    let wanted : IsWanted p.ops w = record { within = within; places = ap length (vars_are p c.requires.bench.valid c.args.op within) ∙ sym count ∙ c.if-count_visits-places.false } in
-    let b = state_of (g.S.Sources.view c.loop-i.s) c.loop-i.bench in
-    let kept = c.loop-i.invariant.sought.ran.kept in
-    let below : c.loop-i.i < length c.in_ok-way.way.items = (let r = c.loop-i-test.true in first_of (omega (arith, r), search rules)) in
-    let t : Turn = record { wanted = w; op = c.loop-i.i; on_way = c.index.result.now } in
-    let turn = turn_is p w wanted c.in_ok-way.way.items c.loop-i.i c.index.result.now is_way many below c.index.ensures in
-    let far = ap (λ (q : Plan). turn_reach (plan_value q).ops t) kept.plan in
-    let walked = walked_on p c.requires.bench.valid t turn in
-    let d = state_of (g.S.Sources.view c.goes_on.new.s) c.goes_on.new.bench in
-    let yes : c.in_ok-goes_on.field-0 ≡ true = search rules in
-    let h = subst (GoesOn b d t c.goes_on.new.self) yes c.in_ok-goes_on.ensures.answer in
-    let next : c.loop-i.i + 1 ≡ suc c.loop-i.i = omega arith in
-    let same = ap (λ (m : ℕ). reaches (take (length (vars_below p.ops c.args.op m)) c.args.places.now)) next in
-    record {
-      sought =
-          sought_then g.met.S.Sources.after (reaches (take (length (vars_below p.ops c.args.op c.loop-i.i)) c.args.places.now)) (turn_reach (plan_value c.loop-i.bench.fixed.plan).ops t)
-          (reaches (take (length (vars_below p.ops c.args.op (c.loop-i.i + 1))) c.args.places.now))
-          c.args.s.now c.loop-i.s c.goes_on.new.s c.args.bench.now c.loop-i.bench c.goes_on.new.bench c.loop-i.invariant.sought c.goes_on.ensures.sought.ran c.goes_on.ensures.sought.asks
-          (omega (arith, far, walked, same));
-      knows = subst (λ (m : ℕ). Knows d p.ops w c.goes_on.new.self m) (sym next) (ops_back a b kept d w c.goes_on.new.self (suc c.loop-i.i) h.0);
-      right = λ told j l o. elim (below_or j c.loop-i.i (omega (arith, l))) [
-        | inl m ↦ c.loop-i.invariant.right told j m o
-        | inr e ↦
-            subst (λ (m : ℕ). ShapeHolds (documents a) (given p.ops c.args.op c.args.places.now) (shape_at p.ops m)) (sym e)
-            (holds_back a b kept t (h.1 (kept.told ∙ told) (turn.way ∙ subst (λ (m : ℕ). is_on_way p.ops c.args.op m ≡ true) e o)))
-      ];
-    }
-
-pub returns-clause-sought : goal.returns-clause-sought
-returns-clause-sought g c =
-    sought_within _ _ c.args.s.now c.loop-i.s c.args.bench.now c.loop-i.bench c.loop-i.invariant.sought (reaches_front _ c.args.places.now)
-
-pub returns-clause-spots : goal.returns-clause-spots
-returns-clause-spots g c =
-    let a = state_of (g.S.Sources.view c.args.s.now) c.args.bench.now in
-    let p = plan_value c.args.bench.now.fixed.plan in
-    let within : c.args.op < length p.ops = (let r = c.requires.op in omega (arith, r)) in
-    let ops_is = c.deref.ensures.value ∙ ap (λ (q : Plan). q.ops.items) c.plan.ensures in
-    let is_way = subst (λ (os : List Op). IsWay (map op_of os) c.args.op c.in_ok-way.way.items) ops_is c.in_ok-way.ensures.way in
-    let many : length c.in_ok-way.way.items ≡ suc c.args.op = (let r = c.in_ok-way.ensures.length in omega (arith, r)) in
-    let count =
-    counted c.args.bench.now.fixed.plan.ops.items c.deref-2.result.now c.args.op c.count_visits.result c.in_ok-way.way.items c.deref-3.result.now
-    (c.deref-2.ensures.value ∙ ap (λ (q : Plan). q.ops.items) c.plan-2.ensures) c.deref-3.ensures.value is_way many (c.count_visits.ensures c.args.op) in
-    let w : Wanted = record { op = c.args.op; places = c.args.places } in
-    let wanted : IsWanted p.ops w = record { within = within; places = ap length (vars_are p c.requires.bench.valid c.args.op within) ∙ sym count ∙ c.if-count_visits-places.false } in
-    let b = state_of (g.S.Sources.view c.loop-i.s) c.loop-i.bench in
-    let kept = c.loop-i.invariant.sought.ran.kept in
-    let done : c.loop-i.i ≡ suc c.args.op = (let r = c.loop-i-test.false in let e = c.loop-i.auto.i-end in first_of (omega (arith, r, e, many), search rules)) in
-    let knows = subst (λ (m : ℕ). Knows b p.ops w c.loop-i.found m) done c.loop-i.invariant.knows in
-    let spots = spots_given p c.requires.bench.valid w wanted (documents a) b c.loop-i.found knows in
-    subst (λ (q : Plan). AreSpotsOf b (given (plan_value q).ops c.args.op c.args.places.now) (evidence_vars (plan_value q).ops c.args.op) c.loop-i.found.spots.items) (sym kept.plan) spots
-
-pub returns-clause-answer : goal.returns-clause-answer
-returns-clause-answer g c =
-    let a = state_of (g.S.Sources.view c.args.s.now) c.args.bench.now in
-    let p = plan_value c.args.bench.now.fixed.plan in
-    let within : c.args.op < length p.ops = (let r = c.requires.op in omega (arith, r)) in
-    let ops_is = c.deref.ensures.value ∙ ap (λ (q : Plan). q.ops.items) c.plan.ensures in
-    let is_way = subst (λ (os : List Op). IsWay (map op_of os) c.args.op c.in_ok-way.way.items) ops_is c.in_ok-way.ensures.way in
-    let many : length c.in_ok-way.way.items ≡ suc c.args.op = (let r = c.in_ok-way.ensures.length in omega (arith, r)) in
-    let count =
-    counted c.args.bench.now.fixed.plan.ops.items c.deref-2.result.now c.args.op c.count_visits.result c.in_ok-way.way.items c.deref-3.result.now
-    (c.deref-2.ensures.value ∙ ap (λ (q : Plan). q.ops.items) c.plan-2.ensures) c.deref-3.ensures.value is_way many (c.count_visits.ensures c.args.op) in
-    let w : Wanted = record { op = c.args.op; places = c.args.places } in
-    let wanted : IsWanted p.ops w = record { within = within; places = ap length (vars_are p c.requires.bench.valid c.args.op within) ∙ sym count ∙ c.if-count_visits-places.false } in
-    let b = state_of (g.S.Sources.view c.loop-i.s) c.loop-i.bench in
-    let kept = c.loop-i.invariant.sought.ran.kept in
-    let done : c.loop-i.i ≡ suc c.args.op = (let r = c.loop-i-test.false in let e = c.loop-i.auto.i-end in first_of (omega (arith, r, e, many), search rules)) in
-    let knows = subst (λ (m : ℕ). Knows b p.ops w c.loop-i.found m) done c.loop-i.invariant.knows in
-    let spots = spots_given p c.requires.bench.valid w wanted (documents a) b c.loop-i.found knows in
-    λ told. (nodes_wanted p.ops w, is_evidence p c.requires.bench.valid w wanted (documents a) (λ j l o. c.loop-i.invariant.right told j (omega (arith, l, done)) o), spots)
+    record { within = within; places = ap length (vars_are p c.requires.bench.valid c.args.op within) ∙ sym count ∙ c.if-count_visits-places.false }
