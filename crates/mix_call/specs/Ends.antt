@@ -10,7 +10,7 @@ use Rattle.mix_talk.specs.declared.fault.TalkFault.{TalkFault}
 use Rattle.mix_talk.specs.declared.fault.TalkFault.TheVariants.{InputFailed, SinkFailed, OutOfMemory}
 use Rattle.mix_top.specs.Commands.{command_of}
 use Rattle.mix_top.specs.Course.{IsCourse}
-use Rattle.mix_top.specs.Ends.{Ends, EndsAlong, TookPrefix, TookAtMost}
+use Rattle.mix_top.specs.Ends.{Ends, EndsAlong, TookPrefix}
 use Rattle.mix_top.specs.Outside.{Outside}
 use Rattle.mix_top.specs.Stops.{IsDoneAlong, IsDoneWith, outcome_of, outcome_status}
 use Rattle.mix_call.specs.Talks.{IsTalkRefused, Talks}
@@ -20,7 +20,7 @@ abbrev pub EndsSo : (SinkView → SinkView → ℕ → List ℕ → Type 0) → 
 EndsSo Course input input' sink sink' (Ok marked) = IsAtEnd input' × IsDoneAlong Course sink sink' (outcome_of marked)
 EndsSo Course input input' sink sink' (Err InputFailed) = HasRisen input.faults input'.faults × (status : ℕ) × IsDoneWith (Course sink sink') status sink sink'
 EndsSo Course input input' sink sink' (Err SinkFailed) = HasRisen sink.faults sink'.faults × TookPrefix (Course sink sink') sink sink'
-EndsSo Course input input' sink sink' (Err OutOfMemory) = TookAtMost (Course sink sink') sink sink'
+EndsSo Course input input' sink sink' (Err OutOfMemory) = TookPrefix (Course sink sink') sink sink'
 
 -- bytes were taken of an input, and the lines end whose course is given by what these bytes ask for
 pub record TalkedAlong (Course : List Heard → SinkView → SinkView → ℕ → List ℕ → Type 0) (input input' : InputView) (sink sink' : SinkView) (end : Result Bool TalkFault) : Type 0 where
@@ -40,10 +40,11 @@ abbrev pub IsHeld : Outside → Outside → List ℕ → List ℕ → InputView 
 IsHeld before after view catalog input input' sink sink' status =
     (end : Result Bool TalkFault) × (status ≡ talk_status end) × TalkedAlong (Talks before after view catalog) input input' sink sink' end
 
--- a talk ends: a file is refused and nothing is taken of the input, or it was held
+-- a talk ends: a file is refused, and nothing is taken of the input or asked of stores; or it was held
 abbrev pub TalkEnds : Outside → Outside → List ℕ → List ℕ → InputView → InputView → SinkView → SinkView → ℕ → Type 0
 TalkEnds before after view catalog input input' sink sink' status =
-    ((input' ≡ input) × Ends (IsTalkRefused before.files after.files view catalog) sink sink' status) ⊎ IsHeld before after view catalog input input' sink sink' status
+    ((input' ≡ input) × (after.stores ≡ before.stores) × Ends (IsTalkRefused before.files after.files view catalog) sink sink' status)
+    ⊎ IsHeld before after view catalog input input' sink sink' status
 
 -- the view and the catalog of a talk, where command words are those of a talk
 abbrev pub talk_of : List (List ℕ) → Option (List ℕ × List ℕ)
@@ -56,4 +57,5 @@ talk_of (word ∷ a ∷ b ∷ c ∷ words) = None
 -- how the call of given words ends: a talk as talks do, any other command as its course says, and it takes nothing of the input
 abbrev pub WordsEnd : Option (List ℕ × List ℕ) → List (List ℕ) → Outside → Outside → InputView → InputView → SinkView → SinkView → ℕ → Type 0
 WordsEnd (Some talk) words before after input input' sink sink' status = TalkEnds before after talk.0 talk.1 input input' sink sink' status
-WordsEnd None words before after input input' sink sink' status = (input' ≡ input) × EndsAlong (IsCourse before after (command_of words)) sink sink' status
+WordsEnd None words before after input input' sink sink' status =
+    (input' ≡ input) × EndsAlong (after.stores ≡ before.stores) (IsCourse before after (command_of words)) sink sink' status

@@ -11,6 +11,7 @@ use Rattle.plan_core.specs.PlanMade.{plan_value}
 use Rattle.mix_top.specs.Answered.{IsAnsweredIn}
 use Rattle.mix_top.specs.Course.{IsCatalogFile, IsSourceRefused, by_view}
 use Rattle.mix_top.specs.Question.{IsPlanDocument}
+use Rattle.mix_top.specs.Reading.{IsEither}
 use Rattle.mix_top.specs.Running.{ArePlaced, IsPlanOver, IsStopAfter, IsViewPlan, Placed, documents_of, placed_of, question_of}
 use Rattle.mix_top.specs.declared.refusal.Stop.{Stop}
 use Rattle.mix_call.specs.Ends.{TalkedAlong}
@@ -32,7 +33,7 @@ pub record IsReady (files : FilesView) (view catalog : List ℕ) (r : Ready) : T
 
 -- a file of a talk is refused, or memory ran out
 abbrev pub IsReadyStop : FilesView → FilesView → List ℕ → List ℕ → Stop → Type 0
-IsReadyStop old new view catalog = IsStopAfter by_view (λ sources ops. IsSourceRefused old new ops sources) old new view catalog
+IsReadyStop old new view catalog = IsStopAfter by_view (λ sources ops. IsSourceRefused (IsEither catalog view) old new ops sources) old new view catalog
 
 -- given lines answer what was heard on the plan's document over sources, by a number of fills
 abbrev pub TalkOver : ℕ → StoresView → StoresView → Placed → Basis → List Heard → SinkView → SinkView → ℕ → List ℕ → Type 0

@@ -5,7 +5,7 @@ ghost use Rattle.mix_io.specs.Views.{FilesView, SinkView, KeepsFiles};
 ghost use Rattle.plan_core.specs.PlanMade.{plan_value};
 ghost use Rattle.mix_reach.specs.Reach.{CameFrom, reaching_in};
 ghost use Rattle.mix_reach.specs.Stores.{KeepsStores, StoresView, stores_in};
-ghost use Rattle.mix_top.specs.FilesRead.{ReadsAmong};
+ghost use Rattle.mix_top.specs.Reading.{ReadsAmong};
 ghost use Rattle.mix_top.specs.Outside.{outside};
 ghost use Rattle.mix_top.specs.Running.{ArePlaced, IsPlanOver, placed_of};
 ghost use Rattle.mix_call.specs.Ends.{TalkEnds, TalkedAlong, talk_status};
