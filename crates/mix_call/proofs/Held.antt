@@ -8,6 +8,7 @@ use Rattle.mix_talk.specs.declared.fault.TalkFault.{TalkFault}
 use Rattle.mix_talk.specs.declared.fault.TalkFault.TheVariants.{InputFailed, SinkFailed, OutOfMemory}
 use Rattle.mix_reach.specs.Stores.{StoresView}
 use Rattle.plan_core.specs.Events.{VisitedAreMatches}
+use Rattle.xmas_read.specs.Results.{names_of_sources}
 use Rattle.plan_core.specs.PlanMade.{plan_value}
 use Rattle.mix_top.specs.Ends.{Ends}
 use Rattle.mix_top.specs.Outside.{outside}
@@ -40,12 +41,12 @@ module _ (old new : FilesView) (stores stores' : StoresView) (view catalog : Lis
 
   -- where a talk over what was made ready was held, the talk ends
   pub held : (ready : Ready) → IsReady old view catalog ready → (end : Result Bool TalkFault)
-      → (fills : ℕ) × TalkedAlong (TalkOver fills stores stores' (placed ready) ready.basis) input input' before after end → (status : ℕ) → status ≡ talk_status end → Ended status
+      → (fills : ℕ) × TalkedAlong (names_of_sources ready.basis.catalog) (TalkOver fills stores stores' (placed ready) ready.basis) input input' before after end → (status : ℕ) → status ≡ talk_status end → Ended status
   held ready is end h status same =
       let Over : Course = TalkOver h.0 stores stores' (placed ready) ready.basis in
       let All : Course = Talks (outside old stores) (outside new stores') view catalog in
       let asked = heard_by h.1.bytes end in
-      inr (end, same, record { bytes = h.1.bytes; took = h.1.took; ends = ends_weaker (Over asked) (All asked) input input' before after (talks asked h.0) end h.1.ends })
+      inr (ready.basis.catalog, is.catalog_is, end, same, record { bytes = h.1.bytes; took = h.1.took; timely = h.1.timely; ends = ends_weaker (Over asked) (All asked) input input' before after (talks asked h.0) end h.1.ends })
     where
       talks : (asked : List Heard) (fills status : ℕ) (lines : List ℕ) → TalkOver fills stores stores' (placed ready) ready.basis asked before after status lines
           → Talks (outside old stores) (outside new stores') view catalog asked before after status lines

@@ -8,6 +8,7 @@ use Rattle.mix_talk.specs.Heard.{Heard, steps_in}
 use Rattle.mix_talk.specs.declared.fault.TalkFault.{TalkFault}
 use Rattle.mix_tree.specs.Forest.{LabelledTree}
 use Rattle.plan_core.specs.PlanMade.{plan_value}
+use Rattle.xmas_read.specs.Results.{names_of_sources}
 use Rattle.mix_top.specs.Answered.{IsAnsweredIn}
 use Rattle.mix_top.specs.Course.{IsCatalogFile, IsSourceRefused, by_view}
 use Rattle.mix_top.specs.Question.{IsPlanDocument}
@@ -46,4 +47,4 @@ TalkOver fills before after place basis asked sink sink' status lines =
 abbrev pub IsReachedEnd : Reaching → Reaching → Basis → InputView → InputView → SinkView → SinkView → Result Bool TalkFault → Type 0
 IsReachedEnd old new basis input input' sink sink' end =
     new.mounted.tables.pages ≤ old.mounted.tables.pages + new.fills
-    → TalkedAlong (TalkOver new.fills (stores_of old) (stores_of new) (placed_of old) basis) input input' sink sink' end
+    → TalkedAlong (names_of_sources basis.catalog) (TalkOver new.fills (stores_of old) (stores_of new) (placed_of old) basis) input input' sink sink' end
