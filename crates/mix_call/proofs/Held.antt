@@ -1,14 +1,14 @@
 -- How a talk is held, or refused.
-use Rattle.std.proofs.Common.{◌≡◌, inl, inr, ℕ, Bool, List, [], Result, Ok, Err, refl, string_bytes}
+use Rattle.std.proofs.Common.{◌≡◌, inl, inr, ℕ, Bool, List, Result, Ok, Err, refl, string_bytes}
 use Rattle.mix_io.specs.Input.{InputView}
 use Rattle.mix_io.specs.Views.{FilesView, SinkView}
 use Rattle.mix_talk.specs.Ends.{heard_by}
 use Rattle.mix_talk.specs.Heard.{Heard, steps_in}
 use Rattle.mix_talk.specs.declared.fault.TalkFault.{TalkFault}
 use Rattle.mix_talk.specs.declared.fault.TalkFault.TheVariants.{InputFailed, SinkFailed, OutOfMemory}
-use Rattle.mix_io.proofs.Taken.{took_none}
 use Rattle.mix_reach.specs.Stores.{StoresView}
 use Rattle.plan_core.specs.Events.{VisitedAreMatches}
+use Rattle.xmas_read.specs.Results.{names_of_sources}
 use Rattle.plan_core.specs.PlanMade.{plan_value}
 use Rattle.mix_top.specs.Ends.{Ends}
 use Rattle.mix_top.specs.Outside.{outside}
@@ -26,18 +26,13 @@ use Rattle.mix_call.specs.declared.talking.Ready.{Ready}
 abbrev Course : Type 1
 Course = List Heard → SinkView → SinkView → ℕ → List ℕ → Type 0
 
--- where memory ran out before anything was taken, the talk took nothing and wrote nothing
-pub untaken : (C : Course) (input : InputView) (before : SinkView) → TalkedAlong C input input before before (Err OutOfMemory)
-untaken C input before = record { bytes = []; took = took_none input; ends = inl refl }
-
 -- a talk that ends in one course ends in any course that has its lines
 ends_weaker : (C D : SinkView → SinkView → ℕ → List ℕ → Type 0) (input input' : InputView) (before after : SinkView)
     → ((status : ℕ) (lines : List ℕ) → C before after status lines → D before after status lines) → (end : Result Bool TalkFault) → EndsSo C input input' before after end → EndsSo D input input' before after end
 ends_weaker C D input input' before after w (Ok marked) h = (h.0, (h.1.0, w _ h.1.0 h.1.1, h.1.2))
 ends_weaker C D input input' before after w (Err InputFailed) h = (h.0, h.1, (h.2.0, w h.1 h.2.0 h.2.1, h.2.2))
 ends_weaker C D input input' before after w (Err SinkFailed) h = (h.0, (h.1.0, h.1.1, w h.1.0 h.1.1 h.1.2, h.1.3))
-ends_weaker C D input input' before after w (Err OutOfMemory) (inl h) = inl h
-ends_weaker C D input input' before after w (Err OutOfMemory) (inr h) = inr (h.0, h.1, w h.0 h.1 h.2, h.3)
+ends_weaker C D input input' before after w (Err OutOfMemory) h = (h.0, h.1, w h.0 h.1 h.2, h.3)
 
 module _ (old new : FilesView) (stores stores' : StoresView) (view catalog : List ℕ) (visits : VisitedAreMatches) (input input' : InputView) (before after : SinkView) where
   -- the talk of a run ends with this status
@@ -46,12 +41,12 @@ module _ (old new : FilesView) (stores stores' : StoresView) (view catalog : Lis
 
   -- where a talk over what was made ready was held, the talk ends
   pub held : (ready : Ready) → IsReady old view catalog ready → (end : Result Bool TalkFault)
-      → (fills : ℕ) × TalkedAlong (TalkOver fills stores stores' (placed ready) ready.basis) input input' before after end → (status : ℕ) → status ≡ talk_status end → Ended status
+      → (fills : ℕ) × TalkedAlong (names_of_sources ready.basis.catalog) (TalkOver fills stores stores' (placed ready) ready.basis) input input' before after end → (status : ℕ) → status ≡ talk_status end → Ended status
   held ready is end h status same =
       let Over : Course = TalkOver h.0 stores stores' (placed ready) ready.basis in
       let All : Course = Talks (outside old stores) (outside new stores') view catalog in
       let asked = heard_by h.1.bytes end in
-      inr (end, same, record { bytes = h.1.bytes; took = h.1.took; ends = ends_weaker (Over asked) (All asked) input input' before after (talks asked h.0) end h.1.ends })
+      inr (ready.basis.catalog, is.catalog_is, end, same, record { bytes = h.1.bytes; took = h.1.took; timely = h.1.timely; ends = ends_weaker (Over asked) (All asked) input input' before after (talks asked h.0) end h.1.ends })
     where
       talks : (asked : List Heard) (fills status : ℕ) (lines : List ℕ) → TalkOver fills stores stores' (placed ready) ready.basis asked before after status lines
           → Talks (outside old stores) (outside new stores') view catalog asked before after status lines
@@ -68,8 +63,8 @@ module _ (old new : FilesView) (stores stores' : StoresView) (view catalog : Lis
 -- where a talk was refused, and the line of its refusal was written or cut short, the talk ends
 pub refused : (old new : FilesView) (stores : StoresView) (view catalog : List ℕ) (input : InputView) (before after : SinkView) (r : Refusal) (status : ℕ) → IsReadyStop old new view catalog (stop.Refused r)
     → Ends (λ s lines. (s ≡ r.status) × (lines ≡ string_bytes r.line)) before after status → TalkEnds (outside old stores) (outside new stores) view catalog input input before after status
-refused old new stores view catalog input before after r status cause ends = inl (refl, refusal_ends (IsTalkRefused old new view catalog) before after r status cause ends)
+refused old new stores view catalog input before after r status cause ends = inl (refl, refl, refusal_ends (IsTalkRefused old new view catalog) before after r status cause ends)
 
 -- where a talk was stopped before it began, since memory ran out, the talk ends
 pub unbegun : (old new : FilesView) (stores : StoresView) (view catalog : List ℕ) (input : InputView) (before : SinkView) → TalkEnds (outside old stores) (outside new stores) view catalog input input before before 6
-unbegun old new stores view catalog input before = inl (refl, inr (inr (record { six = refl; prefix = inl refl })))
+unbegun old new stores view catalog input before = inl (refl, refl, inr (inr (record { six = refl; prefix = inl (tt, refl) })))

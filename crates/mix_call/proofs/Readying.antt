@@ -7,22 +7,25 @@ use Rattle.plan_core.specs.Plans.{Operator, PlanValue}
 use Rattle.mix_top.specs.declared.refusal.Stop.{Stop}
 use Rattle.mix_top.specs.declared.refusal.Stop.TheVariants.{Refused, SinkFailed, OutOfMemory}
 use Rattle.mix_top.specs.Course.{IsCatalogFile, by_view}
-use Rattle.mix_top.specs.FilesRead.{ReadsAmong, SourceMayRead}
+use Rattle.mix_top.specs.FilesRead.{SourceMayRead}
+use Rattle.mix_top.specs.Reading.{IsEither, ReadsAmong}
 use Rattle.mix_top.specs.Mounting.{IsMountStop}
 use Rattle.mix_top.specs.Running.{IsViewPlan}
 use Rattle.view_class.specs.Reads.{reads_source}
 use Rattle.mix_top.proofs.FilesRead.{reads_catalog, reads_then, reads_view, source_may_before}
 use Rattle.mix_top.proofs.MountLaws.{IsSteady}
-use Rattle.mix_top.proofs.Readiness.{gives_before, source_refused_before}
+use Rattle.mix_top.proofs.Readiness.{gives_before, source_refused_after}
 use Rattle.mix_call.specs.Over.{IsReadyStop}
 use Rattle.mix_call.specs.Talks.{TalkMayRead}
 
 -- where the file of a source is refused after a view that is accepted, a talk is not ready
 pub sources_unready : (old mid new : FilesView) (view catalog : List ℕ) (sources : List SourceSpec) (ops : List Operator) (stop : Stop) → IsSteady old mid
-    → IsCatalogFile old catalog sources → by_view.Gives old view sources ops → IsMountStop mid new (reads_source ops) sources stop → IsReadyStop old new view catalog stop
-sources_unready old mid new view catalog sources ops (Refused r) steady cat gives h = inr (sources, cat, inr (ops, gives, source_refused_before old mid new (reads_source ops) sources r.status (string_bytes r.line) steady h))
-sources_unready old mid new view catalog sources ops SinkFailed steady cat gives h = absurd h
-sources_unready old mid new view catalog sources ops OutOfMemory steady cat gives h = tt
+    → IsCatalogFile old catalog sources → by_view.Gives old view sources ops → ReadsAmong (IsEither catalog view) old mid → IsMountStop mid new (reads_source ops) sources stop
+    → IsReadyStop old new view catalog stop
+sources_unready old mid new view catalog sources ops (Refused r) steady cat gives reads h =
+    inr (sources, cat, inr (ops, gives, source_refused_after (IsEither catalog view) old mid new (reads_source ops) sources r.status (string_bytes r.line) steady reads h))
+sources_unready old mid new view catalog sources ops SinkFailed steady cat gives reads h = absurd h
+sources_unready old mid new view catalog sources ops OutOfMemory steady cat gives reads h = tt
 
 -- where the catalog, then the view and then the sources' files were read, only what a talk may read was
 pub sources_read : (old mid late new : FilesView) (view catalog : List ℕ) (sources : List SourceSpec) (p : PlanValue) → IsCatalogFile old catalog sources → IsViewPlan mid view sources p

@@ -12,29 +12,32 @@ use Rattle.mix_serve.specs.declared.fault.ServeFault.{ServeFault}
 use Rattle.mix_serve.specs.declared.serving.Served.{Served}
 use Rattle.mix_top.specs.Causes.{IsNoCatalog}
 use Rattle.mix_top.specs.Course.{IsCatalogFile, every}
-use Rattle.mix_top.specs.FilesRead.{ChosenMayRead, ReadsAmong}
+use Rattle.mix_top.specs.FilesRead.{ChosenMayRead}
+use Rattle.mix_top.specs.Reading.{ReadsAmong}
 use Rattle.mix_top.specs.Mounting.{IsMountStop}
 use Rattle.mix_top.specs.Stops.{IsLoadStop}
 use Rattle.mix_top.specs.declared.refusal.Stop.{Stop}
 use Rattle.mix_top.specs.declared.refusal.Stop.TheVariants.{Refused, SinkFailed, OutOfMemory}
-use Rattle.mix_top.proofs.FilesRead.{reads_one, reads_twice, reads_wider, source_may_before}
+use Rattle.mix_top.proofs.FilesRead.{source_may_before}
+use Rattle.mix_top.proofs.ReadingLaws.{reads_one, reads_twice, reads_wider}
 use Rattle.mix_top.proofs.MountLaws.{IsSteady}
-use Rattle.mix_top.proofs.Readiness.{source_refused_before}
+use Rattle.mix_top.proofs.Readiness.{source_refused_after}
 use Rattle.mix_top.specs.Running.{Placed, placed_of}
 use Rattle.mix_call.specs.Served.{AreAnswered, IsServingStop, ServingMayRead, reaching}
 
 -- where the catalog was not accepted, serving stops
-pub catalog_stops : (old new : FilesView) (catalog : List ℕ) (stop : Stop) → IsLoadStop IsNoCatalog old new catalog stop → IsServingStop old new catalog stop
-catalog_stops old new catalog (Refused r) h = inl h
-catalog_stops old new catalog SinkFailed h = absurd h
-catalog_stops old new catalog OutOfMemory h = tt
+pub catalog_stops : (old new : FilesView) (catalog : List ℕ) (stop : Stop) → ReadsOnly catalog old new → IsLoadStop IsNoCatalog old new catalog stop → IsServingStop old new catalog stop
+catalog_stops old new catalog (Refused r) only h = inl (h, only)
+catalog_stops old new catalog SinkFailed only h = absurd h
+catalog_stops old new catalog OutOfMemory only h = tt
 
 -- where the file of a source was not accepted after a catalog that was, serving stops
 pub sources_stop : (old mid new : FilesView) (catalog : List ℕ) (sources : List SourceSpec) (stop : Stop) → IsSteady old mid → IsCatalogFile old catalog sources
-    → IsMountStop mid new every sources stop → IsServingStop old new catalog stop
-sources_stop old mid new catalog sources (Refused r) steady cat h = inr (sources, cat, source_refused_before old mid new every sources r.status (string_bytes r.line) steady h)
-sources_stop old mid new catalog sources SinkFailed steady cat h = absurd h
-sources_stop old mid new catalog sources OutOfMemory steady cat h = tt
+    → ReadsOnly catalog old mid → IsMountStop mid new every sources stop → IsServingStop old new catalog stop
+sources_stop old mid new catalog sources (Refused r) steady cat only h =
+    inr (sources, cat, source_refused_after (λ p. p ≡ catalog) old mid new every sources r.status (string_bytes r.line) steady only h)
+sources_stop old mid new catalog sources SinkFailed steady cat only h = absurd h
+sources_stop old mid new catalog sources OutOfMemory steady cat only h = tt
 
 -- where the catalog alone was read, only what serving may read was
 pub catalog_read : (old new : FilesView) (catalog : List ℕ) → ReadsOnly catalog old new → ReadsAmong (ServingMayRead old catalog) old new

@@ -4,8 +4,9 @@ use Rattle.mix_base.proofs.Lists.{append_nil, take_append}
 use Rattle.mix_io.specs.Contents.{Appends}
 use Rattle.mix_io.specs.Input.{InputView}
 use Rattle.mix_io.specs.Views.{FilesView, SinkView}
+use Rattle.mix_io.proofs.Taken.{took_none}
 use Rattle.mix_tree.specs.Forest.{LabelledTree}
-use Rattle.mix_reach.specs.Reach.{CameFrom, Reaching, view_of}
+use Rattle.mix_reach.specs.Reach.{CameFrom, Reaching, came_same, view_of}
 use Rattle.mix_reach.specs.Stores.{stores_of}
 use Rattle.plan_core.specs.PlanMade.{plan_value}
 use Rattle.xmas_read.specs.Results.{names_of_sources}
@@ -21,12 +22,14 @@ use Rattle.mix_talk.specs.Lines.{spoken}
 use Rattle.mix_talk.specs.declared.fault.TalkFault.{TalkFault}
 use Rattle.mix_talk.specs.declared.fault.TalkFault.TheVariants.{InputFailed, SinkFailed, OutOfMemory}
 use Rattle.mix_talk.proofs.Telling.{spoken_append, spoken_more, spoken_on}
+use Rattle.mix_talk.proofs.Timely.{timely_start}
 use Rattle.mix_top.specs.Answered.{IsAnsweredIn, all_told}
 use Rattle.mix_top.specs.Ends.{TookPrefix}
 use Rattle.mix_top.specs.Question.{Question, IsPlanDocument}
 use Rattle.mix_top.specs.Running.{ArePlaced, IsPlanOver, documents_of, placed_of, question_of}
 use Rattle.mix_top.specs.Stops.{IsDoneWith, outcome_of, outcome_status}
-use Rattle.mix_top.proofs.Answering.{Frugal, IsAnswering, IsManner, answering, prefix_of}
+use Rattle.mix_top.proofs.Answering.{Frugal, IsAnswering, IsManner, answering, prefix_of, unanswered}
+use Rattle.mix_top.proofs.Lines.{nothing_of}
 use Rattle.mix_top.proofs.LinesEnd.{outcome_is}
 use Rattle.mix_top.proofs.ReadTables.{plan_within}
 use Rattle.mix_call.specs.Ends.{EndsSo, TalkedAlong}
@@ -127,9 +130,19 @@ module _ (files : FilesView) (a b : Reaching) (came : CameFrom a b) (basis : Bas
     lines_end (Ok marked) e = (e.0, whole marked e.1)
     lines_end (Err InputFailed) e = (e.0, outcome_status (outcome_of e.1), whole e.1 e.2)
     lines_end (Err SinkFailed) e = (e.0, within e.1)
-    lines_end (Err OutOfMemory) (inl w) = inr (between w)
-    lines_end (Err OutOfMemory) (inr w) = inr (within w)
+    lines_end (Err OutOfMemory) (inl w) = between w
+    lines_end (Err OutOfMemory) (inr w) = within w
 
   -- a talk over sources ends as its lines do
-  pub talk_lines_end : (r : Result Bool TalkFault) → TalkEnds (plan_course st) (view_of a) (view_of b) names input input' before after r → TalkedAlong Course input input' before after r
-  talk_lines_end r e = record { bytes = e.bytes; took = e.took; ends = lines_end (heard_by e.bytes r) r e.ends }
+  pub talk_lines_end : (r : Result Bool TalkFault) → TalkEnds (plan_course st) (view_of a) (view_of b) names input input' before after r → TalkedAlong names Course input input' before after r
+  talk_lines_end r e = record { bytes = e.bytes; took = e.took; timely = e.timely; ends = lines_end (heard_by e.bytes r) r e.ends }
+
+-- where memory ran out before anything was taken of the input of a talk, nothing was written of its lines
+pub talk_untaken : (a : Reaching) (basis : Basis) (t : LabelledTree) → IsPlanDocument (documents_of (stores_of a) (placed_of a)) (plan_value basis.plan).ops t → a.fills ≡ 0
+    → a.mounted.tables.pages ≤ a.mounted.tables.pages + a.fills → (input : InputView) (before : SinkView)
+    → TalkedAlong (names_of_sources basis.catalog) (TalkOver a.fills (stores_of a) (stores_of a) (placed_of a) basis) input input before before (Err OutOfMemory)
+talk_untaken a basis t is_document unasked few input before =
+    let asked = heard_by [] (Err OutOfMemory) in
+    let q = question_of (stores_of a) (placed_of a) basis.catalog (plan_value basis.plan).ops (steps_in asked) t in
+    let f = unanswered (in_talk asked q) a a (came_same a) basis.catalog (plan_value basis.plan).ops (steps_in asked) t unasked few before (in_talk_is_manner asked q) ([], asked, refl, refl, [], refl) in
+    record { bytes = []; took = took_none input; timely = timely_start (names_of_sources basis.catalog) before.written; ends = (f.status, f.lines, (t, is_document, f.is), nothing_of before.written f.lines) }

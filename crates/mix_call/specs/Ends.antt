@@ -4,13 +4,15 @@ use Rattle.std.specs.Str.{bytes_eq}
 use Rattle.mix_base.specs.Counts.{HasRisen}
 use Rattle.mix_io.specs.Input.{InputView, IsAtEnd, Took}
 use Rattle.mix_io.specs.Views.{SinkView}
-use Rattle.mix_talk.specs.Ends.{heard_by}
+use Rattle.mix_catalog.specs.declared.source.SourceSpec.{SourceSpec}
+use Rattle.mix_talk.specs.Ends.{IsTakenInTime, heard_by}
 use Rattle.mix_talk.specs.Heard.{Heard}
 use Rattle.mix_talk.specs.declared.fault.TalkFault.{TalkFault}
 use Rattle.mix_talk.specs.declared.fault.TalkFault.TheVariants.{InputFailed, SinkFailed, OutOfMemory}
 use Rattle.mix_top.specs.Commands.{command_of}
-use Rattle.mix_top.specs.Course.{IsCourse}
-use Rattle.mix_top.specs.Ends.{Ends, EndsAlong, TookPrefix, TookAtMost}
+use Rattle.xmas_read.specs.Results.{names_of_sources}
+use Rattle.mix_top.specs.Course.{IsCatalogFile, IsCourse}
+use Rattle.mix_top.specs.Ends.{Ends, EndsAlong, TookPrefix}
 use Rattle.mix_top.specs.Outside.{Outside}
 use Rattle.mix_top.specs.Stops.{IsDoneAlong, IsDoneWith, outcome_of, outcome_status}
 use Rattle.mix_call.specs.Talks.{IsTalkRefused, Talks}
@@ -20,12 +22,13 @@ abbrev pub EndsSo : (SinkView → SinkView → ℕ → List ℕ → Type 0) → 
 EndsSo Course input input' sink sink' (Ok marked) = IsAtEnd input' × IsDoneAlong Course sink sink' (outcome_of marked)
 EndsSo Course input input' sink sink' (Err InputFailed) = HasRisen input.faults input'.faults × (status : ℕ) × IsDoneWith (Course sink sink') status sink sink'
 EndsSo Course input input' sink sink' (Err SinkFailed) = HasRisen sink.faults sink'.faults × TookPrefix (Course sink sink') sink sink'
-EndsSo Course input input' sink sink' (Err OutOfMemory) = TookAtMost (Course sink sink') sink sink'
+EndsSo Course input input' sink sink' (Err OutOfMemory) = TookPrefix (Course sink sink') sink sink'
 
--- bytes were taken of an input, and the lines end whose course is given by what these bytes ask for
-pub record TalkedAlong (Course : List Heard → SinkView → SinkView → ℕ → List ℕ → Type 0) (input input' : InputView) (sink sink' : SinkView) (end : Result Bool TalkFault) : Type 0 where
+-- bytes were taken of an input in time, and the lines end whose course is given by what these bytes ask for; sources have given names
+pub record TalkedAlong (names : List (List ℕ)) (Course : List Heard → SinkView → SinkView → ℕ → List ℕ → Type 0) (input input' : InputView) (sink sink' : SinkView) (end : Result Bool TalkFault) : Type 0 where
   pub bytes : List ℕ
   pub took : Took input input' bytes
+  pub timely : IsTakenInTime names bytes sink.written sink'.written
   pub ends : EndsSo (Course (heard_by bytes end)) input input' sink sink' end
 
 -- the status of a talk, by how it ended
@@ -35,15 +38,17 @@ talk_status (Err SinkFailed) = 5
 talk_status (Err OutOfMemory) = 6
 talk_status (Err InputFailed) = 10
 
--- a talk whose files were all accepted was held, and its status says how it ended
+-- a talk whose files were all accepted was held over the sources of its catalog, and its status says how it ended
 abbrev pub IsHeld : Outside → Outside → List ℕ → List ℕ → InputView → InputView → SinkView → SinkView → ℕ → Type 0
 IsHeld before after view catalog input input' sink sink' status =
-    (end : Result Bool TalkFault) × (status ≡ talk_status end) × TalkedAlong (Talks before after view catalog) input input' sink sink' end
+    (sources : List SourceSpec) × IsCatalogFile before.files catalog sources × (end : Result Bool TalkFault) × (status ≡ talk_status end)
+    × TalkedAlong (names_of_sources sources) (Talks before after view catalog) input input' sink sink' end
 
--- a talk ends: a file is refused and nothing is taken of the input, or it was held
+-- a talk ends: a file is refused, and nothing is taken of the input or asked of stores; or it was held
 abbrev pub TalkEnds : Outside → Outside → List ℕ → List ℕ → InputView → InputView → SinkView → SinkView → ℕ → Type 0
 TalkEnds before after view catalog input input' sink sink' status =
-    ((input' ≡ input) × Ends (IsTalkRefused before.files after.files view catalog) sink sink' status) ⊎ IsHeld before after view catalog input input' sink sink' status
+    ((input' ≡ input) × (after.stores ≡ before.stores) × Ends (IsTalkRefused before.files after.files view catalog) sink sink' status)
+    ⊎ IsHeld before after view catalog input input' sink sink' status
 
 -- the view and the catalog of a talk, where command words are those of a talk
 abbrev pub talk_of : List (List ℕ) → Option (List ℕ × List ℕ)
@@ -56,4 +61,5 @@ talk_of (word ∷ a ∷ b ∷ c ∷ words) = None
 -- how the call of given words ends: a talk as talks do, any other command as its course says, and it takes nothing of the input
 abbrev pub WordsEnd : Option (List ℕ × List ℕ) → List (List ℕ) → Outside → Outside → InputView → InputView → SinkView → SinkView → ℕ → Type 0
 WordsEnd (Some talk) words before after input input' sink sink' status = TalkEnds before after talk.0 talk.1 input input' sink sink' status
-WordsEnd None words before after input input' sink sink' status = (input' ≡ input) × EndsAlong (IsCourse before after (command_of words)) sink sink' status
+WordsEnd None words before after input input' sink sink' status =
+    (input' ≡ input) × EndsAlong (after.stores ≡ before.stores) (IsCourse before after (command_of words)) sink sink' status

@@ -8,9 +8,11 @@ use Rattle.mix_talk.specs.Heard.{Heard, steps_in}
 use Rattle.mix_talk.specs.declared.fault.TalkFault.{TalkFault}
 use Rattle.mix_tree.specs.Forest.{LabelledTree}
 use Rattle.plan_core.specs.PlanMade.{plan_value}
+use Rattle.xmas_read.specs.Results.{names_of_sources}
 use Rattle.mix_top.specs.Answered.{IsAnsweredIn}
 use Rattle.mix_top.specs.Course.{IsCatalogFile, IsSourceRefused, by_view}
 use Rattle.mix_top.specs.Question.{IsPlanDocument}
+use Rattle.mix_top.specs.Reading.{IsEither}
 use Rattle.mix_top.specs.Running.{ArePlaced, IsPlanOver, IsStopAfter, IsViewPlan, Placed, documents_of, placed_of, question_of}
 use Rattle.mix_top.specs.declared.refusal.Stop.{Stop}
 use Rattle.mix_call.specs.Ends.{TalkedAlong}
@@ -32,7 +34,7 @@ pub record IsReady (files : FilesView) (view catalog : List ℕ) (r : Ready) : T
 
 -- a file of a talk is refused, or memory ran out
 abbrev pub IsReadyStop : FilesView → FilesView → List ℕ → List ℕ → Stop → Type 0
-IsReadyStop old new view catalog = IsStopAfter by_view (λ sources ops. IsSourceRefused old new ops sources) old new view catalog
+IsReadyStop old new view catalog = IsStopAfter by_view (λ sources ops. IsSourceRefused (IsEither catalog view) old new ops sources) old new view catalog
 
 -- given lines answer what was heard on the plan's document over sources, by a number of fills
 abbrev pub TalkOver : ℕ → StoresView → StoresView → Placed → Basis → List Heard → SinkView → SinkView → ℕ → List ℕ → Type 0
@@ -45,4 +47,4 @@ TalkOver fills before after place basis asked sink sink' status lines =
 abbrev pub IsReachedEnd : Reaching → Reaching → Basis → InputView → InputView → SinkView → SinkView → Result Bool TalkFault → Type 0
 IsReachedEnd old new basis input input' sink sink' end =
     new.mounted.tables.pages ≤ old.mounted.tables.pages + new.fills
-    → TalkedAlong (TalkOver new.fills (stores_of old) (stores_of new) (placed_of old) basis) input input' sink sink' end
+    → TalkedAlong (names_of_sources basis.catalog) (TalkOver new.fills (stores_of old) (stores_of new) (placed_of old) basis) input input' sink sink' end

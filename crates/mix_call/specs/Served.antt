@@ -31,7 +31,7 @@ catalog_of (word ∷ a ∷ b ∷ words) = None
 
 -- a file of serving is refused, the first in this order: the catalog, and the files of all its sources
 abbrev pub IsServingRefused : FilesView → FilesView → List ℕ → ℕ → List ℕ → Type 0
-IsServingRefused old new catalog = ReadsAfter (λ sources. IsChosenRefused old new every sources) old new catalog
+IsServingRefused old new catalog = ReadsAfter (λ sources. IsChosenRefused (λ p. p ≡ catalog) old new every sources) old new catalog
 
 -- serving may read the catalog, and then the files of all its sources
 abbrev pub ServingMayRead : FilesView → List ℕ → List ℕ → Type 0

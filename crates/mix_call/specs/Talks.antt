@@ -9,10 +9,11 @@ use Rattle.mix_top.specs.Course.{IsRefusedAfter, IsSourceRefused, IsViewQuestion
 use Rattle.mix_top.specs.FilesRead.{MayReadAfter, SourceMayRead}
 use Rattle.mix_top.specs.Outside.{Outside}
 use Rattle.mix_top.specs.Question.{Question}
+use Rattle.mix_top.specs.Reading.{IsEither}
 
 -- a file of a talk is refused, the first in this order: the catalog, the view, and the files of the sources that the view's plan reads
 abbrev pub IsTalkRefused : FilesView → FilesView → List ℕ → List ℕ → ℕ → List ℕ → Type 0
-IsTalkRefused old new view catalog = IsRefusedAfter by_view (λ sources ops. IsSourceRefused old new ops sources) old new view catalog
+IsTalkRefused old new view catalog = IsRefusedAfter by_view (λ sources ops. IsSourceRefused (IsEither catalog view) old new ops sources) old new view catalog
 
 -- a talk may read the catalog, the view, and then the files of the sources that the view's plan reads
 abbrev pub TalkMayRead : FilesView → List ℕ → List ℕ → List ℕ → Type 0

@@ -4,7 +4,7 @@ ghost use Rattle.mix_io.specs.Input.{InputView};
 ghost use Rattle.mix_io.specs.Views.{FilesView, SinkView, KeepsFiles};
 ghost use Rattle.mix_reach.specs.Stores.{KeepsStores, StoresView, stores_in};
 ghost use Rattle.mix_top.specs.Commands.{asks_stores, command_of};
-ghost use Rattle.mix_top.specs.FilesRead.{ReadsAmong};
+ghost use Rattle.mix_top.specs.Reading.{ReadsAmong};
 ghost use Rattle.mix_top.specs.Outside.{outside};
 ghost use Rattle.mix_call.specs.Ends.{WordsEnd, talk_of};
 ghost use Rattle.mix_call.specs.Reading.{WordsMayRead};
@@ -38,7 +38,8 @@ fn read_talk(words: &[String]) -> Option<Talking<'_>>
 /// Status 0: all was done, and no line is a fault line. 1: all was done, and some line is a fault line. 2: the words are of no form. 3: a
 /// file is not accepted. 4: a file can't be read. 5: `out` failed. 6: memory ran out. 7: a file is longer than 67,108,864 bytes. 10: the
 /// input failed. A run or a talk that ends with 5 or 6 has written a prefix of its lines; a talk that ends with 10 has answered all whole
-/// lines that it took before. The stores are handed back whatever the status is (docs/FORMATS.md, "Commands", "Talks").
+/// lines that it took before. The stores are handed back whatever the status is, and with 2, 3, 4 and 7 as they were (docs/FORMATS.md,
+/// "Commands", "Talks").
 pub fn mixq_over<F: Files, T: Tables, R: Fars, I: Input, K: Sink>(
     alloc: Global,
     words: &[String],

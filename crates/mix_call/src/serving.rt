@@ -3,7 +3,7 @@ ghost use Rattle.std.specs.Prelude.{◌≡◌, ◌≤◌, Some, None, IfSome, If
 ghost use Rattle.mix_io.specs.Input.{InputView};
 ghost use Rattle.mix_io.specs.Views.{FilesView, SinkView, KeepsFiles};
 ghost use Rattle.mix_reach.specs.Stores.{KeepsStores, StoresView, stores_in};
-ghost use Rattle.mix_top.specs.FilesRead.{ReadsAmong};
+ghost use Rattle.mix_top.specs.Reading.{ReadsAmong};
 ghost use Rattle.mix_top.specs.Outside.{outside};
 ghost use Rattle.mix_call.specs.Served.{AreAnswered, AreServed, IsServingStop, ServeEnds, ServeWordsEnd, ServeWordsMayRead, ServingMayRead};
 ghost use Rattle.mix_call.specs.Served.{catalog_of, placed, serving_status};

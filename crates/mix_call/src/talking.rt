@@ -3,9 +3,10 @@ ghost use Rattle.std.specs.Prelude.{◌≡◌, ◌≤◌, ℕ, length, IfOk, IfE
 ghost use Rattle.mix_io.specs.Input.{InputView};
 ghost use Rattle.mix_io.specs.Views.{FilesView, SinkView, KeepsFiles};
 ghost use Rattle.plan_core.specs.PlanMade.{plan_value};
+ghost use Rattle.xmas_read.specs.Results.{names_of_sources};
 ghost use Rattle.mix_reach.specs.Reach.{CameFrom, reaching_in};
 ghost use Rattle.mix_reach.specs.Stores.{KeepsStores, StoresView, stores_in};
-ghost use Rattle.mix_top.specs.FilesRead.{ReadsAmong};
+ghost use Rattle.mix_top.specs.Reading.{ReadsAmong};
 ghost use Rattle.mix_top.specs.Outside.{outside};
 ghost use Rattle.mix_top.specs.Running.{ArePlaced, IsPlanOver, placed_of};
 ghost use Rattle.mix_call.specs.Ends.{TalkEnds, TalkedAlong, talk_status};
@@ -103,7 +104,7 @@ fn talk_ready<T: Tables, R: Fars, I: Input, K: Sink>(
     requires few { length ready.docs.items ≤ 32 }
     ensures keeps { KeepsStores (stores_in T.view R.view stores) (stores_in T.view R.view result.1) }
     ensures end { let old = stores_in T.view R.view stores in let new = stores_in T.view R.view result.1 in
-        (fills : ℕ) × TalkedAlong (TalkOver fills old new (placed ready) ready.basis)
+        (fills : ℕ) × TalkedAlong (names_of_sources ready.basis.catalog) (TalkOver fills old new (placed ready) ready.basis)
         (I.view streams.old.input) (I.view streams.new.input) (K.view streams.old.out) (K.view streams.new.out) result.0 }
     ensures input { (I.view streams.old.input).faults ≤ (I.view streams.new.input).faults }
     ensures count { (K.view streams.old.out).faults ≤ (K.view streams.new.out).faults }

@@ -21,6 +21,7 @@ pub fn open_loop<T: Tables, R: Fars>(
     ensures opened { let reaching = reaching_in T.view R.view in IfOk result (λ r. IsOpened (reaching sources)
         (reaching (sources_of r.link.server)) (looped T.view R.view r.link r.peers.items r.fills)) }
     ensures refused { let reaching = reaching_in T.view R.view in IfErr result (λ s. CameFromReaching (reaching sources) (reaching s)) }
+    ensures unasked { IfErr result (λ s. s.fills ≡ sources.fills) }
 {
     match Remote::open(alloc, MemLink::new(sources)) {
         Ok(remote) => Ok(remote),

@@ -21,7 +21,7 @@ use Rattle.mix_lines.specs.Written.{IsSoFar}
 use Rattle.mix_lines.specs.declared.fault.LinesFault.{LinesFault}
 use Rattle.mix_lines.specs.declared.fault.LinesFault.TheVariants as lines
 use Rattle.mix_lines.proofs.SoFar.{so_far_run, so_far_named, earlier, lazy_begun, next}
-use Rattle.mix_talk.specs.Ends.{StopsBetween, StopsWithin, TalkEnds}
+use Rattle.mix_talk.specs.Ends.{IsTakenInTime, StopsBetween, StopsWithin, TalkEnds}
 use Rattle.mix_talk.specs.Faults.{of_lines}
 use Rattle.mix_talk.specs.Heard.{step, heard, steps_in}
 use Rattle.mix_talk.specs.Lines.{spoken}
@@ -29,6 +29,7 @@ use Rattle.mix_talk.specs.declared.fault.TalkFault.TheVariants.{SinkFailed, OutO
 use Rattle.mix_talk.specs.declared.reader.LineReader.{LineReader}
 use Rattle.mix_talk.proofs.Telling.{steps_append, spoken_append}
 use Rattle.mix_talk.proofs.Talking.{IsTalking, all_asks, all_steps, prefix, talk_ends}
+use Rattle.mix_talk.proofs.Timely.{timely_cut, timely_on}
 
 module _ {V W : Type 0} (c : Course W) (m : Meaning V W) (old now : View) (values : NamesOf V) (names : List (List ℕ)) (input mid : InputView) (r : LineReader) (sink between : SinkView) (marked : Bool) where
   module _ (s : Step) (far : IsTalking c m old now values names input mid r sink.written between.written marked (step s ∷ [])) where
@@ -64,7 +65,7 @@ module _ {V W : Type 0} (c : Course W) (m : Meaning V W) (old now : View) (value
 
       -- where memory ran out before there was an answer, the talk ends
       pub talking_short : TalkEnds c old v' names input mid sink between (Err OutOfMemory)
-      talking_short = talk_ends c old v' names input mid sink between far.bytes far.took (Err OutOfMemory) (inl (before_line between refl))
+      talking_short = talk_ends c old v' names input mid sink between far.bytes far.took far.timely (Err OutOfMemory) (inl (before_line between refl))
 
       module _ (a : Answer) (is : IsStep m m' now.faults v'.faults values values' s.client s.act a) where
         -- where a step's line was written, the talk has come one step further
@@ -90,6 +91,7 @@ module _ {V W : Type 0} (c : Course W) (m : Meaning V W) (old now : View) (value
               all = length-append far.answers (a ∷ []) ∙ ap (λ n. n + 1) far.all ∙ sym (ap (λ (xs : List Step). length xs) same ∙ length-append (steps_in far.done) (s ∷ []));
               written = subst (Appends sink.written after) (sym lines) (one_more sink.written between.written after (spoken names far.done far.answers) (line_of names s.client a) far.written wrote);
               marks = ap (λ k. k || is_fault a) far.marks ∙ sym (has_fault_push far.answers a);
+              timely = timely_on names far.bytes sink.written between.written after (line_of names s.client a) far.timely wrote;
             }
 
         -- where a prefix of a step's line was written, the talk stops within that line
@@ -117,6 +119,6 @@ module _ {V W : Type 0} (c : Course W) (m : Meaning V W) (old now : View) (value
 
         -- where a step's line was cut short, the talk ends
         pub talking_cut : (sink' : SinkView) → sink.faults ≤ between.faults → (fault : LinesFault) → IsStepCut (λ x. x ≡ a) names s.client between sink' fault → TalkEnds c old v' names input mid sink sink' (Err (of_lines fault))
-        talking_cut sink' rises lines.SinkFailed cut = talk_ends c old v' names input mid sink sink' far.bytes far.took (Err SinkFailed) (let h = cut.0 in omega (arith, h, rises), within_line sink' cut.1)
-        talking_cut sink' rises lines.OutOfMemory (inl same) = talk_ends c old v' names input mid sink sink' far.bytes far.took (Err OutOfMemory) (inl (before_line sink' same))
-        talking_cut sink' rises lines.OutOfMemory (inr w) = talk_ends c old v' names input mid sink sink' far.bytes far.took (Err OutOfMemory) (inr (within_line sink' w))
+        talking_cut sink' rises lines.SinkFailed cut = talk_ends c old v' names input mid sink sink' far.bytes far.took (timely_cut names far.bytes sink.written between.written sink'.written (line_of names s.client cut.1.a) far.timely cut.1.written) (Err SinkFailed) (let h = cut.0 in omega (arith, h, rises), within_line sink' cut.1)
+        talking_cut sink' rises lines.OutOfMemory (inl same) = talk_ends c old v' names input mid sink sink' far.bytes far.took (subst (λ (x : SinkView). IsTakenInTime names far.bytes sink.written x.written) (sym same) far.timely) (Err OutOfMemory) (inl (before_line sink' same))
+        talking_cut sink' rises lines.OutOfMemory (inr w) = talk_ends c old v' names input mid sink sink' far.bytes far.took (timely_cut names far.bytes sink.written between.written sink'.written (line_of names s.client w.a) far.timely w.written) (Err OutOfMemory) (inr (within_line sink' w))

@@ -20,7 +20,7 @@ use Rattle.mix_talk.specs.Reading.{Reads, TookSome}
 use Rattle.mix_talk.specs.declared.fault.TalkFault.TheVariants.{InputFailed, OutOfMemory}
 use Rattle.mix_talk.specs.declared.reader.LineReader.{LineReader}
 use Rattle.mix_io.proofs.Taken.{took_more}
-use Rattle.mix_talk.proofs.Talking.{IsTalking, talking_read, read_done, all_asks, passed_asks, stops, talk_ends}
+use Rattle.mix_talk.proofs.Talking.{IsTalking, talking_read, read_done, all_asks, passed_asks, stops, talk_ends, timely_more}
 use Rattle.mix_talk.proofs.Whole.{whole_of}
 
 module _ {V W : Type 0} (c : Course W) (m : Meaning V W) (old now : View) (values : NamesOf V) (names : List (List ℕ)) (input mid : InputView) (r : LineReader) (sink between : SinkView) (marked : Bool)
@@ -55,14 +55,16 @@ module _ {V W : Type 0} (c : Course W) (m : Meaning V W) (old now : View) (value
       ap (λ b. heard (whole_lines b)) parts ∙ ap heard (whole_of far.passed (r.page ++ took.bytes) (far.end (took.going refl)) (took.part refl))
       ∙ passed_asks c m old now values names input mid r sink between marked far in
       let h = cause refl in
-      talk_ends c old now names input new sink between bytes (took_more input mid new far.bytes took.bytes far.took took.took) (Err InputFailed) (omega (arith, h, rises), marked, answered_all (heard (whole_lines bytes)) same)
+      talk_ends c old now names input new sink between bytes (took_more input mid new far.bytes took.bytes far.took took.took)
+      (timely_more c m old now values names input mid r sink between marked far took.bytes took.pieces took.still) (Err InputFailed) (omega (arith, h, rises), marked, answered_all (heard (whole_lines bytes)) same)
   talking_failed new take.OutOfMemory took rises cause =
       let bytes = far.bytes ++ took.bytes in
       let later = heard (r.page ++ took.bytes) in
       let parts : heard bytes ≡ far.done ++ later =
       ap heard (ap (λ b. b ++ took.bytes) far.cut ∙ append_assoc far.passed r.page took.bytes)
       ∙ far.ask (r.page ++ took.bytes) (λ ended. ap (λ p. p ++ took.bytes) (far.reader ended).0 ∙ took.still ended) in
-      talk_ends c old now names input new sink between bytes (took_more input mid new far.bytes took.bytes far.took took.took) (Err OutOfMemory)
+      talk_ends c old now names input new sink between bytes (took_more input mid new far.bytes took.bytes far.took took.took)
+      (timely_more c m old now values names input mid r sink between marked far took.bytes took.pieces took.still) (Err OutOfMemory)
       (inl (stops c m old now values names input mid r sink between marked [] far bytes later parts))
 
   -- where there is no next line, the talk ends
@@ -73,4 +75,4 @@ module _ {V W : Type 0} (c : Course W) (m : Meaning V W) (old now : View) (value
       let all : heard read.bytes ≡ far.done =
       all_asks c m old now values names input new r' sink between marked [] read ∙ ap (λ p. read.done ++ heard p) at_end.0 ∙ append_nil read.done
       ∙ read_done c m old now values names input mid r sink between marked new r' None far reads in
-      talk_ends c old now names input new sink between read.bytes read.took (Ok marked) (at_end.1, answered_all (heard read.bytes) all)
+      talk_ends c old now names input new sink between read.bytes read.took read.timely (Ok marked) (at_end.1, answered_all (heard read.bytes) all)

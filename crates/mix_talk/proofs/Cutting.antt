@@ -7,7 +7,7 @@ use Rattle.mix_io.specs.declared.input.TakeFault.TheVariants.{Failed, OutOfMemor
 use Rattle.mix_script.specs.declared.step.LineRead.{LineRead}
 use Rattle.mix_talk.specs.Heard.{heard, next_asks}
 use Rattle.mix_talk.specs.Pages.{Refilled}
-use Rattle.mix_talk.specs.Reading.{HasNoLf, IsLine, IsReaderOf, Moved, TookSome, Reads, to_read}
+use Rattle.mix_talk.specs.Reading.{ArePieces, HasNoLf, IsLine, IsReaderOf, Moved, TookSome, Reads, to_read}
 use Rattle.mix_talk.specs.declared.reader.LineReader.{LineReader}
 use Rattle.mix_talk.proofs.Long.{no_lf_append, no_lf_take, kept_asks, kept_line, lines_without}
 use Rattle.mix_io.proofs.Taken.{took_none, took_more}
@@ -23,6 +23,7 @@ pub record IsCutting (old now : InputView) (r r' : LineReader) (line : List ℕ)
   pub cut : r.page ++ bytes ≡ body ++ r'.page
   pub reader : IsReaderOf now r'
   pub still : r.ended ≡ true → (bytes ≡ []) × (r'.ended ≡ true)
+  pub pieces : ArePieces r.page bytes
   pub less : to_read now r' + length body ≤ to_read old r
 
 -- how many pages can still be taken
@@ -73,6 +74,7 @@ cutting_start input r reader = record {
   cut = append_nil r.page;
   reader = reader;
   still = λ ended. (refl, ended);
+  pieces = inl refl;
   less = omega arith;
 }
 
@@ -95,8 +97,9 @@ module _ (old now : InputView) (r r' : LineReader) (line : List ℕ) (cut : IsCu
   page_moved page line' moved = cut_more page line' false moved ∙ ap (λ p. (cut.body ++ moved.part) ++ p) moved.is.1 ∙ append_nil (cut.body ++ moved.part)
 
   -- where a part without LF was moved and another page was taken, the line is read on
-  pub cutting_more : (new : InputView) (r'' : LineReader) (page line' : List ℕ) → Moved r'.page page line line' false → Refilled now new r''.page → (r''.ended ≡ true → r''.page ≡ []) → r'.ended ≡ false → IsCutting old new r r'' line'
-  cutting_more new r'' page line' moved filled end goes = record {
+  pub cutting_more : (new : InputView) (r'' : LineReader) (page line' : List ℕ) → Moved r'.page page line line' false → Refilled now new r''.page → (r''.ended ≡ true → r''.page ≡ []) → r'.ended ≡ false
+      → length r''.page ≤ 4096 → IsCutting old new r r'' line'
+  cutting_more new r'' page line' moved filled end goes short = record {
     bytes = cut.bytes ++ r''.page;
     took = took_more old now new cut.bytes r''.page cut.took filled.took;
     body = cut.body ++ moved.part;
@@ -105,6 +108,7 @@ module _ (old now : InputView) (r r' : LineReader) (line : List ℕ) (cut : IsCu
     cut = sym (append_assoc r.page cut.bytes r''.page) ∙ ap (λ xs. xs ++ r''.page) (page_moved page line' moved);
     reader = λ ended. let none = end ended in (none, filled.end none);
     still = λ ended. absurd (not_both goes (cut.still ended).1);
+    pieces = inr (cut.bytes, r''.page, refl, subst HasNoLf (sym (page_moved page line' moved)) (no_lf_append cut.body moved.part cut.free moved.is.0), short);
     less =
         let long = ap (λ (xs : List ℕ). length xs) moved.cut ∙ length-append moved.part page in
         omega (arith, cut.less, filled.took.counted, filled.few, long, length-append cut.body moved.part);
@@ -116,6 +120,7 @@ module _ (old now : InputView) (r r' : LineReader) (line : List ℕ) (cut : IsCu
     bytes = cut.bytes ++ [];
     took = took_more old now new cut.bytes [] cut.took took;
     still = λ ended. absurd (not_both goes (cut.still ended).1);
+    pieces = subst (ArePieces r.page) (sym (append_nil cut.bytes)) cut.pieces;
     going = λ failed. not_yet r.ended refl;
     part = λ failed.
         subst HasNoLf (sym (page_moved page line' moved) ∙ ap (λ b. r.page ++ b) (sym (append_nil cut.bytes))) (no_lf_append cut.body moved.part cut.free moved.is.0);
@@ -131,6 +136,7 @@ module _ (old now : InputView) (r r' : LineReader) (line : List ℕ) (cut : IsCu
     bytes = cut.bytes;
     took = cut.took;
     still = λ ended. (cut.still ended).0;
+    pieces = cut.pieces;
     going = λ failed. absurd (other failed);
     part = λ failed. absurd (other failed);
   }
@@ -169,6 +175,7 @@ module _ (old now : InputView) (r r' : LineReader) (line : List ℕ) (cut : IsCu
       ask = λ more end.
           ap heard (append_assoc body (10 ∷ []) more) ∙ (kept_line body none_in).2 more ∙ ap (λ asked. asked ++ heard more) (ap heard (sym is_kept) ∙ asks);
       still = λ ended. absurd (not_both open_before (cut.still ended).1);
+      pieces = cut.pieces;
       last = λ e. absurd (some (none e));
       less = λ h.
           subst (λ p. 2 ^ 64 - now.taken + length p < to_read old r) (sym is)
@@ -204,6 +211,7 @@ module _ (old now : InputView) (r r' : LineReader) (line : List ℕ) (cut : IsCu
         ap heard (sym (append_nil cut.body)) ∙ sym (kept_asks cut.body [] cut.free) ∙ ap heard (append_nil (take 1048578 cut.body) ∙ sym cut.kept) ∙ asks in
         ap (λ m. heard (cut.body ++ m)) (end ended) ∙ ap heard (append_nil cut.body) ∙ same ∙ sym (append_nil (next_asks read)) ∙ ap (λ m. next_asks read ++ heard m) (sym (end ended));
     still = λ e. ((cut.still e).0, ended);
+    pieces = cut.pieces;
     last = λ e. ended;
     less = λ h.
         let long = some h cut.body refl in

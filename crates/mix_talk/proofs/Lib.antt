@@ -6,5 +6,6 @@ mod Parts
 mod Answering
 mod Talking
 pub mod Telling
+pub mod Timely
 mod Unformed
 mod Whole

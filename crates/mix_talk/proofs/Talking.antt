@@ -15,11 +15,12 @@ use Rattle.mix_session.specs.Held.{IsSession}
 use Rattle.mix_lines.specs.Lines.{IsRun, IsLazy}
 use Rattle.mix_lines.specs.Written.{IsSoFar}
 use Rattle.mix_lines.proofs.SoFar.{so_far_start, so_far_run, so_far_lazy}
-use Rattle.mix_talk.specs.Ends.{StopsBetween, EndsBy, TalkEnds, heard_by}
-use Rattle.mix_talk.specs.Heard.{Heard, heard, next_asks, steps_in}
+use Rattle.mix_talk.specs.Ends.{StopsBetween, EndsBy, IsTakenInTime, TalkEnds, heard_by}
+use Rattle.mix_talk.specs.Heard.{Heard, heard, next_asks, steps_in, whole_lines}
 use Rattle.mix_talk.specs.Lines.{spoken}
-use Rattle.mix_talk.specs.Reading.{EndsInLf, IsReaderOf, Reads}
-use Rattle.mix_talk.proofs.Whole.{AreWhole}
+use Rattle.mix_talk.specs.Reading.{ArePieces, EndsInLf, IsReaderOf, Reads}
+use Rattle.mix_talk.proofs.Timely.{appends_nothing, timely_start}
+use Rattle.mix_talk.proofs.Whole.{AreWhole, whole_of}
 use Rattle.mix_talk.specs.declared.fault.TalkFault.{TalkFault}
 use Rattle.mix_talk.specs.declared.fault.TalkFault.TheVariants.{OutOfMemory}
 use Rattle.mix_talk.specs.declared.reader.LineReader.{LineReader}
@@ -44,16 +45,12 @@ pub record IsTalking {V W : Type 0} (c : Course W) (m : Meaning V W) (old now : 
   pub all : length answers ≡ length (steps_in done)
   pub written : Appends before after (spoken names done answers)
   pub marks : marked ≡ has_fault answers
+  pub timely : IsTakenInTime names bytes before after
 
 -- where nothing more is marked, the mark is as it was
 pub or_false : (a : Bool) → (a || false) ≡ a
 or_false true = refl
 or_false false = refl
-
--- where nothing was written, no lines were appended
-appends_nothing : (before : Option (List ℕ)) → Appends before before []
-appends_nothing None = refl
-appends_nothing (Some w) = ap Some (sym (append_nil w))
 
 -- lines that were written and then a prefix of a line are a prefix of all
 pub prefix : (o now after : Option (List ℕ)) (lines line : List ℕ) → Appends o now lines → AppendsPrefix now after line → (count : ℕ) × Appends o after (lines ++ take count line)
@@ -89,18 +86,21 @@ talking_start m v values names input r before session none page goes = record {
   all = refl;
   written = appends_nothing before;
   marks = refl;
+  timely = timely_start names before;
 }
   where
     no : false ≡ true → ⊥
     no h = cc
 
 -- over a document that is told a talk ends as the tree's lines tell
-pub talk_ends : {W : Type 0} (c : Course W) (old new : View) (names : List (List ℕ)) (input input' : InputView) (sink sink' : SinkView) (bytes : List ℕ) → Took input input' bytes → (r : Result Bool TalkFault)
+pub talk_ends : {W : Type 0} (c : Course W) (old new : View) (names : List (List ℕ)) (input input' : InputView) (sink sink' : SinkView) (bytes : List ℕ) → Took input input' bytes
+    → IsTakenInTime names bytes sink.written sink'.written → (r : Result Bool TalkFault)
     → EndsBy (IsRun c old.faults new.faults (steps_in (heard_by bytes r))) (IsLazy c old.fills new.fills (steps_in (heard_by bytes r))) names (heard_by bytes r) input input' sink sink' r
     → TalkEnds c old new names input input' sink sink' r
-talk_ends c old new names input input' sink sink' bytes took r ends = record {
+talk_ends c old new names input input' sink sink' bytes took timely r ends = record {
   bytes = bytes;
   took = took;
+  timely = timely;
   ends = ends;
   told = λ t one.
       let steps = steps_in (heard_by bytes r) in
@@ -111,7 +111,7 @@ talk_ends c old new names input input' sink sink' bytes took r ends = record {
 pub talk_unbegun : {V W : Type 0} (m : Meaning V W) (v : View) (names : List (List ℕ)) (input : InputView) (sink : SinkView) → TalkEnds m.course v v names input input sink sink (Err OutOfMemory)
 talk_unbegun m v names input sink =
     let so = so_far_start m v no_names [] refl in
-    talk_ends m.course v v names input input sink sink [] (took_none input) (Err OutOfMemory) (inl record {
+    talk_ends m.course v v names input input sink sink [] (took_none input) (timely_start names sink.written) (Err OutOfMemory) (inl record {
       done = [];
       later = [];
       parts = refl;
@@ -123,6 +123,39 @@ talk_unbegun m v names input sink =
     })
 
 module _ {V W : Type 0} (c : Course W) (m : Meaning V W) (old now : View) (values : NamesOf V) (names : List (List ℕ)) (input mid : InputView) (r : LineReader) (sink between : SinkView) (marked : Bool) where
+  -- the lines that were read ask for what was answered
+  pub passed_asks : (far : IsTalking c m old now values names input mid r sink.written between.written marked []) → heard far.passed ≡ far.done
+  passed_asks far = ap heard (sym (append_nil far.passed)) ∙ far.ask [] (λ ended. refl) ∙ append_nil far.done
+
+  -- what was taken for the next line after what was taken in time was taken in time
+  pub timely_more : (far : IsTalking c m old now values names input mid r sink.written between.written marked []) (more : List ℕ) → ArePieces r.page more → (r.ended ≡ true → more ≡ [])
+      → IsTakenInTime names (far.bytes ++ more) sink.written between.written
+  timely_more far more (inl none) still = subst (λ (b : List ℕ). IsTakenInTime names b sink.written between.written) (sym (ap (λ m. far.bytes ++ m) none ∙ append_nil far.bytes)) far.timely
+  timely_more far more (inr pieces) still = by_end r.ended refl
+    where
+      InTime : List ℕ → Type 0
+      InTime bytes = IsTakenInTime names bytes sink.written between.written
+
+      same : r.ended ≡ false → heard (whole_lines (far.bytes ++ pieces.0)) ≡ far.done
+      same goes =
+          ap (λ b. heard (whole_lines (b ++ pieces.0))) far.cut ∙ ap (λ b. heard (whole_lines b)) (append_assoc far.passed r.page pieces.0)
+          ∙ ap heard (whole_of far.passed (r.page ++ pieces.0) (far.end goes) pieces.3) ∙ passed_asks far
+
+      by_end : (ended : Bool) → r.ended ≡ ended → InTime (far.bytes ++ more)
+      by_end true ended = subst InTime (sym (ap (λ m. far.bytes ++ m) (still ended) ∙ append_nil far.bytes)) far.timely
+      by_end false goes =
+          let lines = spoken names far.done far.answers in
+          record {
+            earlier = far.bytes ++ pieces.0;
+            last = pieces.1;
+            parts = ap (λ m. far.bytes ++ m) pieces.2 ∙ sym (append_assoc far.bytes pieces.0 pieces.1);
+            short = pieces.4;
+            answers = far.answers;
+            all = far.all ∙ ap (λ h. length (steps_in h)) (sym (same goes));
+            rest = [];
+            written = subst (λ h. Appends sink.written between.written (spoken names h far.answers ++ [])) (sym (same goes)) (subst (Appends sink.written between.written) (sym (append_nil lines)) far.written);
+          }
+
   -- where a line was read, the talk has come to it
   pub talking_read : (new : InputView) (r' : LineReader) (read : Option LineRead) → IsTalking c m old now values names input mid r sink.written between.written marked [] → Reads mid new r r' read
       → IsTalking c m old now values names input new r' sink.written between.written marked (next_asks read)
@@ -148,6 +181,7 @@ module _ {V W : Type 0} (c : Course W) (m : Meaning V W) (old now : View) (value
     all = far.all;
     written = far.written;
     marks = far.marks;
+    timely = timely_more far reads.bytes reads.pieces (λ ended. (reads.still ended).0);
   }
 
   -- reading a line answers no more than was answered
@@ -159,10 +193,6 @@ module _ {V W : Type 0} (c : Course W) (m : Meaning V W) (old now : View) (value
   -- the bytes that were taken ask for what was answered, what comes next, and what the reader has
   pub all_asks : (coming : List Heard) (far : IsTalking c m old now values names input mid r sink.written between.written marked coming) → heard far.bytes ≡ far.done ++ (coming ++ heard r.page)
   all_asks coming far = ap heard far.cut ∙ far.ask r.page (λ ended. (far.reader ended).0)
-
-  -- the lines that were read ask for what was answered
-  pub passed_asks : (far : IsTalking c m old now values names input mid r sink.written between.written marked []) → heard far.passed ≡ far.done
-  passed_asks far = ap heard (sym (append_nil far.passed)) ∙ far.ask [] (λ ended. refl) ∙ append_nil far.done
 
   -- the steps that the bytes ask for are those answered, those that come next, and the reader's
   pub all_steps : (coming : List Heard) (far : IsTalking c m old now values names input mid r sink.written between.written marked coming)

@@ -23,6 +23,7 @@ use Rattle.mix_talk.specs.declared.fault.TalkFault.TheVariants.{SinkFailed, OutO
 use Rattle.mix_talk.specs.declared.reader.LineReader.{LineReader}
 use Rattle.mix_talk.proofs.Telling.{steps_append, spoken_append}
 use Rattle.mix_talk.proofs.Talking.{IsTalking, all_asks, all_steps, stops, prefix, talk_ends}
+use Rattle.mix_talk.proofs.Timely.{timely_cut, timely_on}
 
 module _ {V W : Type 0} (c : Course W) (m : Meaning V W) (old now : View) (values : NamesOf V) (names : List (List ℕ)) (input mid : InputView) (r : LineReader) (sink between : SinkView) (marked : Bool) where
   -- where the line that says that a line has no form was written, the talk has come further
@@ -47,6 +48,7 @@ module _ {V W : Type 0} (c : Course W) (m : Meaning V W) (old now : View) (value
         all = far.all ∙ sym (ap (λ (xs : List Step). length xs) same);
         written = subst (Appends sink.written after) (sym lines) (one_more sink.written between.written after (spoken names far.done far.answers) no_form_line far.written wrote);
         marks = far.marks;
+        timely = timely_on names far.bytes sink.written between.written after no_form_line far.timely wrote;
       }
 
   -- where the line that says that a line has no form was cut short, the talk ends
@@ -79,5 +81,5 @@ module _ {V W : Type 0} (c : Course W) (m : Meaning V W) (old now : View) (value
           here = subst (λ steps. IsSoFar c m old now values steps (steps_in (heard r.page)) far.answers) (sym (all_steps c m old now values names input mid r sink between marked (no_form ∷ []) far)) (far.so (steps_in (heard r.page)))
 
       by_fault : (fault : LinesFault) → IsNoFormCut between sink' fault → TalkEnds c old now names input mid sink sink' (Err (of_lines fault))
-      by_fault lines.SinkFailed cut = talk_ends c old now names input mid sink sink' far.bytes far.took (Err SinkFailed) (let h = cut.0 in omega (arith, h, rises), within cut.1)
-      by_fault lines.OutOfMemory cut = talk_ends c old now names input mid sink sink' far.bytes far.took (Err OutOfMemory) (inr (within cut))
+      by_fault lines.SinkFailed cut = talk_ends c old now names input mid sink sink' far.bytes far.took (timely_cut names far.bytes sink.written between.written sink'.written no_form_line far.timely cut.1) (Err SinkFailed) (let h = cut.0 in omega (arith, h, rises), within cut.1)
+      by_fault lines.OutOfMemory cut = talk_ends c old now names input mid sink sink' far.bytes far.took (timely_cut names far.bytes sink.written between.written sink'.written no_form_line far.timely cut) (Err OutOfMemory) (inr (within cut))

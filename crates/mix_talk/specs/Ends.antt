@@ -1,5 +1,5 @@
 -- How a talk ends.
-use Rattle.std.specs.Prelude.{◌≡◌, ◌⊎◌, ℕ, Bool, List, [], ◌∷◌, ◌++◌, length, take, Result, Ok, Err}
+use Rattle.std.specs.Prelude.{◌≡◌, ◌⊎◌, ℕ, Bool, List, [], ◌∷◌, ◌++◌, ◌≤◌, length, take, Option, Result, Ok, Err}
 use Rattle.mix_base.specs.Counts.{HasRisen}
 use Rattle.mix_tree.specs.Forest.{LabelledTree}
 use Rattle.mix_io.specs.Contents.{Appends}
@@ -68,11 +68,23 @@ EndsBy Are Cost names heard input input' before after (Err InputFailed) = HasRis
 EndsBy Are Cost names heard input input' before after (Err SinkFailed) = HasRisen before.faults after.faults × StopsWithin Are Cost names heard before after
 EndsBy Are Cost names heard input input' before after (Err OutOfMemory) = StopsBetween Are Cost names heard before after ⊎ StopsWithin Are Cost names heard before after
 
--- how a talk on a course ends, over sources that meant the first view before and mean the second after: bytes were taken, and the talk
--- ends so that has heard what they ask for
+-- bytes were taken in time: but for the last of them, at most 4,096, the lines that answer all their whole lines were written
+pub record IsTakenInTime (names : List (List ℕ)) (bytes : List ℕ) (before after : Option (List ℕ)) : Type 0 where
+  pub earlier : List ℕ
+  pub last : List ℕ
+  pub parts : bytes ≡ earlier ++ last
+  pub short : length last ≤ 4096
+  pub answers : List Answer
+  pub all : length answers ≡ length (steps_in (heard (whole_lines earlier)))
+  pub rest : List ℕ
+  pub written : Appends before after (spoken names (heard (whole_lines earlier)) answers ++ rest)
+
+-- how a talk on a course ends, over sources that meant the first view before and mean the second after: bytes were taken in time, and the
+-- talk ends so that has heard what they ask for
 pub record TalkEnds {W : Type 0} (c : Course W) (old new : View) (names : List (List ℕ)) (input input' : InputView) (before after : SinkView) (r : Result Bool TalkFault) : Type 0 where
   pub bytes : List ℕ
   pub took : Took input input' bytes
+  pub timely : IsTakenInTime names bytes before.written after.written
   pub ends : let steps = steps_in (heard_by bytes r) in
       EndsBy (IsRun c old.faults new.faults steps) (IsLazy c old.fills new.fills steps) names (heard_by bytes r) input input' before after r
   pub told : (t : LabelledTree) → c.IsDocument t → EndsOn c.roots t names (heard_by bytes r) before.written after.written r

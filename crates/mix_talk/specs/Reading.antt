@@ -1,5 +1,5 @@
 -- What reading the next line of an input comes to.
-use Rattle.std.specs.Prelude.{◌≡◌, ◌⊎◌, ◌+◌, ◌-◌, ◌^◌, ◌<◌, ◌==◌, ℕ, Bool, true, false, IsTrue, List, [], ◌∷◌, ◌++◌, Option, None, is_some, length, take}
+use Rattle.std.specs.Prelude.{◌≡◌, ◌⊎◌, ◌+◌, ◌-◌, ◌^◌, ◌<◌, ◌≤◌, ◌==◌, ℕ, Bool, true, false, IsTrue, List, [], ◌∷◌, ◌++◌, Option, None, is_some, length, take}
 use Rattle.mix_io.specs.Input.{InputView, IsAtEnd, Took}
 use Rattle.mix_io.specs.declared.input.TakeFault.{TakeFault}
 use Rattle.mix_io.specs.declared.input.TakeFault.TheVariants.{Failed}
@@ -41,12 +41,17 @@ IsReaderOf input r = r.ended ≡ true → (r.page ≡ []) × IsAtEnd input
 abbrev pub to_read : InputView → LineReader → ℕ
 to_read input r = 2 ^ 64 - input.taken + length r.page
 
+-- bytes were taken for a line in pieces: none; or the last of them at once, at most 4,096, when no byte of what a reader had and of those before them was LF
+abbrev pub ArePieces : (had bytes : List ℕ) → Type 0
+ArePieces had bytes = (bytes ≡ []) ⊎ ((first : List ℕ) × (last : List ℕ) × (bytes ≡ first ++ last) × HasNoLf (had ++ first) × (length last ≤ 4096))
+
 -- some bytes were taken, or none, and no line came to its end: none by a reader that has met the end of its input. Where the input
 -- failed, the reader had not met it, and no byte of what it had and what was taken is LF
 pub record TookSome (old new : InputView) (r : LineReader) (fault : TakeFault) : Type 0 where
   pub bytes : List ℕ
   pub took : Took old new bytes
   pub still : r.ended ≡ true → bytes ≡ []
+  pub pieces : ArePieces r.page bytes
   pub going : fault ≡ Failed → r.ended ≡ false
   pub part : fault ≡ Failed → HasNoLf (r.page ++ bytes)
 
@@ -62,5 +67,6 @@ pub record Reads (old new : InputView) (r r' : LineReader) (read : Option LineRe
   pub end : r'.ended ≡ false → EndsInLf line
   pub ask : (more : List ℕ) → (r'.ended ≡ true → more ≡ []) → heard (line ++ more) ≡ next_asks read ++ heard more
   pub still : r.ended ≡ true → (bytes ≡ []) × (r'.ended ≡ true)
+  pub pieces : ArePieces r.page bytes
   pub last : read ≡ None → r'.ended ≡ true
   pub less : IsTrue (is_some read) → to_read new r' < to_read old r

@@ -60,6 +60,7 @@ impl Page {
     /// error.
     pub fn refill<I: Input>(&mut self, alloc: Global, input: &mut I) -> Result<(), TakeFault>
         ensures ok { OnOk result (Refilled (I.view input.old) (I.view input.new) self.new) }
+        ensures short { OnOk result (length self.new ≤ 4096) }
         ensures err { OnErr result (Took (I.view input.old) (I.view input.new) []) }
         ensures count { (I.view input.old).faults ≤ (I.view input.new).faults }
         ensures failed { IsErrOf result TakeFault.Failed → HasRisen (I.view input.old).faults (I.view input.new).faults }

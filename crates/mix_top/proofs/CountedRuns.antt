@@ -16,7 +16,7 @@ use Rattle.mix_top.specs.Counts.{class_over}
 use Rattle.mix_top.specs.Course.{lines_of_count}
 use Rattle.mix_top.specs.Ends.{TookPrefix}
 use Rattle.mix_top.specs.Running.{IsLinesEnd, LinesOver, Placed, by_fills, question}
-use Rattle.mix_top.specs.Stops.{IsCut, IsDoneAs, IsStop, outcome_status, stop_for}
+use Rattle.mix_top.specs.Stops.{IsCut, IsCutShort, IsDoneAs, IsStopFrom, outcome_status, stop_for}
 use Rattle.mix_top.proofs.Further.{TookOn, answered_on}
 use Rattle.mix_top.proofs.Lines.{cut_last, cut_on, first_prefix, nothing_more}
 
@@ -51,7 +51,7 @@ module _ (stores stores' : StoresView) (p : Placed) (asked : Asked) (counts : Co
             ∙ ap (λ k. lines_of_counts (record { commands = length asked.steps.items; spent = record { fills = counts.spent.fills; pages = stores'.tables.pages - stores.tables.pages }; class = k })) are.class
 
     -- answers with counts whose lines were cut short stop the command
-    cut_counted : (status : ℕ) (all : List ℕ) (stop : Stop) → Counted before after status all → IsCut before after all stop → IsStop (Counted before after) before after stop
+    cut_counted : (status : ℕ) (all : List ℕ) (stop : Stop) → Counted before after status all → IsCut before after all stop → IsStopFrom (stores' ≡ stores) (Counted before after) before after stop
     cut_counted status all (Refused r) course h = absurd h
     cut_counted status all SinkFailed course h = (h.0, (status, all, course, h.1))
     cut_counted status all OutOfMemory course h = inr (status, all, course, h)
@@ -62,10 +62,9 @@ module _ (stores stores' : StoresView) (p : Placed) (asked : Asked) (counts : Co
     prefix_counted h = (h.0, h.1 ++ more, with_counts before mid mid (nothing_more mid.written) h.0 h.1 h.2, first_prefix before.written mid.written h.1 more h.3)
 
     -- a run with counts that was cut short in its answers was stopped
-    cut_short : (fault : LinesFault) → IsStop (Answers before mid) before mid (stop_for fault) → IsStop (Counted before mid) before mid (stop_for fault)
+    cut_short : (fault : LinesFault) → IsCutShort (Answers before mid) before mid fault → IsStopFrom (stores' ≡ stores) (Counted before mid) before mid (stop_for fault)
     cut_short lines.SinkFailed h = (h.0, prefix_counted h.1)
-    cut_short lines.OutOfMemory (inl h) = inl h
-    cut_short lines.OutOfMemory (inr h) = inr (prefix_counted h)
+    cut_short lines.OutOfMemory h = inr (prefix_counted h)
 
     module _ (count : before.faults ≤ mid.faults) where
       -- a run with counts was done where its answers and its counts were written
@@ -78,11 +77,11 @@ module _ (stores stores' : StoresView) (p : Placed) (asked : Asked) (counts : Co
 
       -- a run with counts was stopped where its answers or its counts were cut short
       pub counted_stopped : (end : Result Outcome LinesFault) (r : Result Outcome Stop) → IsLinesEnd Answers before mid end → IfErr r (IsCountStop end mid after more)
-          → IfErr r (IsStop (Counted before after) before after)
+          → IfErr r (IsStopFrom (stores' ≡ stores) (Counted before after) before after)
       counted_stopped end (Ok outcome) h w = tt
       counted_stopped end (Err stop) h (inl w) =
           let cut = cut_short w.0 (subst (λ (e : Result Outcome LinesFault). IsLinesEnd Answers before mid e) w.1 h) in
-          subst (λ (x : SinkView). IsStop (Counted before x) before x stop) (sym w.3) (subst (λ (s : Stop). IsStop (Counted before mid) before mid s) (sym w.2) cut)
+          subst (λ (x : SinkView). IsStopFrom (stores' ≡ stores) (Counted before x) before x stop) (sym w.3) (subst (λ (s : Stop). IsStopFrom (stores' ≡ stores) (Counted before mid) before mid s) (sym w.2) cut)
       counted_stopped end (Err stop) h (inr w) =
           let done = subst (λ (e : Result Outcome LinesFault). IsLinesEnd Answers before mid e) w.1 h in
           let on = cut_on mid after more stop w.2 in

@@ -1,5 +1,5 @@
--- What is read by calls one after another.
-use Rattle.std.proofs.Common.{◌≡◌, ◌∙◌, inl, inr, ℕ, Bool, List, Some, refl, subst, sym, slice_get}
+-- What is read by calls one after another is what commands may read.
+use Rattle.std.proofs.Common.{◌≡◌, ◌<◌, inl, inr, ℕ, Bool, List, Some, refl, arith, slice_get}
 use Rattle.mix_io.specs.Views.{FilesView, KeepsFiles, ReadsOnly}
 use Rattle.mix_catalog.specs.declared.source.SourceSpec.{SourceSpec}
 use Rattle.mix_catalog.specs.Grammar.{file_of}
@@ -10,20 +10,10 @@ use Rattle.mix_mount.specs.declared.mount.Mount.{Mount}
 use Rattle.view_class.specs.Reads.{reads_source}
 use Rattle.mix_top.specs.Course.{AreAccepted, IsCatalogFile, IsScript, PlanFile, every}
 use Rattle.mix_top.specs.Documents.{SpellsTree, StandsFor, IsDocument}
-use Rattle.mix_top.specs.FilesRead.{ChosenMayRead, ReadsAmong, WalkMayRead, FileMayRead, IsFileFor, IsWholeFile, MayReadAfter, ScriptMayRead, SourceMayRead, RunMayRead}
+use Rattle.mix_top.specs.FilesRead.{ChosenMayRead, WalkMayRead, FileMayRead, MayReadAfter, ScriptMayRead, SourceMayRead, RunMayRead}
+use Rattle.mix_top.specs.Reading.{IsFileBefore, IsFileFor, IsWholeFile, ReadsAmong}
 use Rattle.mix_top.proofs.MountLaws.{AreMountedTo, document_before}
-
--- what each of two calls may read, both may
-pub reads_twice : (May : List ℕ → Type 0) (old mid new : FilesView) → ReadsAmong May old mid → ReadsAmong May mid new → ReadsAmong May old new
-reads_twice May old mid new a b = λ path no. b path no ∙ a path no
-
--- where one file alone was read, and it may be read, only files that may be read were
-pub reads_one : (May : List ℕ → Type 0) (path : List ℕ) (old new : FilesView) → May path → ReadsOnly path old new → ReadsAmong May old new
-reads_one May path old new may only = λ other no. only other (λ e. no (subst May (sym e) may))
-
--- what may be read by one rule may be read by a wider one
-pub reads_wider : (A B : List ℕ → Type 0) (old new : FilesView) → ((path : List ℕ) → A path → B path) → ReadsAmong A old new → ReadsAmong B old new
-reads_wider A B old new wider reads = λ path no. reads path (λ a. no (wider path a))
+use Rattle.mix_top.proofs.ReadingLaws.{reads_one, reads_twice, reads_wider}
 
 -- where the document of a walk was read and then its script, only what a walk may read was read
 pub walk_reads : (old mid new : FilesView) (file script : List ℕ) (t : LabelledTree) → IsDocument SpellsTree old file t → ReadsOnly file old mid → ReadsOnly script mid new
@@ -43,12 +33,21 @@ file_reads old mid new file catalog sources accepted first second =
 pub mounted_accepted : (files : FilesView) (chosen : ℕ → Bool) (sources : List SourceSpec) (n : ℕ) (docs : List Mount) → AreMountedTo files chosen sources n docs → AreAccepted files chosen sources n
 mounted_accepted files chosen sources n docs h = λ k before less at is file. let f = ((h.each k before less at).read is).file file in (f.tree, f.document_is)
 
--- where the sources before it were read as allowed and then the next source's file, sources were read as allowed
+-- where the files of the sources before a number alone were read, and they were mounted, sources were read as allowed
+pub mounted_reads : (old new : FilesView) (chosen : ℕ → Bool) (sources : List SourceSpec) (n : ℕ) (docs : List Mount) → AreMountedTo old chosen sources n docs
+    → ReadsAmong (IsFileBefore chosen sources n) old new → ReadsAmong (ChosenMayRead old chosen sources) old new
+mounted_reads old new chosen sources n docs h reads =
+    reads_wider (IsFileBefore chosen sources n) (ChosenMayRead old chosen sources) old new (λ path is. (is.0, is.1, is.3, is.4, accepted is.0 is.2)) reads
+  where
+    accepted : (k : ℕ) → k < n → AreAccepted old chosen sources k
+    accepted k less = λ j before below. mounted_accepted old chosen sources n docs h j before (omega (arith, less, below))
+
+-- where the files of the sources before it alone were read and then the next source's file, sources were read as allowed
 pub source_reads : (old mid new : FilesView) (chosen : ℕ → Bool) (sources : List SourceSpec) (n : ℕ) (docs : List Mount) (spec : SourceSpec) → AreMountedTo old chosen sources n docs
-    → slice_get sources n ≡ Some spec → ReadsAmong (ChosenMayRead old chosen sources) old mid → ReadsAmong (IsFileFor chosen n spec) mid new → ReadsAmong (ChosenMayRead old chosen sources) old new
+    → slice_get sources n ≡ Some spec → ReadsAmong (IsFileBefore chosen sources n) old mid → ReadsAmong (IsFileFor chosen n spec) mid new → ReadsAmong (ChosenMayRead old chosen sources) old new
 source_reads old mid new chosen sources n docs spec h there before now =
     let May = ChosenMayRead old chosen sources in
-    reads_twice May old mid new before
+    reads_twice May old mid new (mounted_reads old mid chosen sources n docs h before)
     (reads_wider (IsFileFor chosen n spec) May mid new (λ path is. (n, spec, there, is, mounted_accepted old chosen sources n docs h)) now)
 
 -- where the file of a source alone was read, it was that of a chosen source where all are chosen

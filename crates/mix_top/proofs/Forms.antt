@@ -6,7 +6,7 @@ use Rattle.mix_top.specs.Course.{IsCourse, Reads, Runs}
 use Rattle.mix_top.specs.FilesRead.{FileMayRead, MayRead, RunMayRead}
 use Rattle.mix_top.specs.Outside.{Outside}
 use Rattle.mix_top.specs.Running.{given_by, run_lines}
-use Rattle.mix_top.specs.Stops.{IsDone, IsDoneAs, IsStop, unmarked_end}
+use Rattle.mix_top.specs.Stops.{IsDone, IsDoneAs, IsStop, IsStopFrom, unmarked_end}
 use Rattle.mix_top.specs.Words.{rule_command, run_command}
 use Rattle.mix_top.specs.Written.{rule_lines}
 use Rattle.mix_top.specs.declared.reading.RuleForm.{RuleForm}
@@ -69,8 +69,10 @@ module _ (before after : Outside) (s0 s1 : SinkView) (command words : Command) (
       subst (λ (c : Command). IfOk end (IsDoneAs (IsCourse before after c s0 s1) s0 s1)) is
       (subst (λ (x : Result Outcome Stop). IfOk x (IsDoneAs (IsCourse before after command s0 s1) s0 s1)) (sym e) (unmarked_done (IsCourse before after command s0 s1) s0 s1 r h))
 
-  -- a command without fault lines, which the words are, was stopped
-  pub words_stopped : IfErr r (IsStop (IsCourse before after command s0 s1) s0 s1) → IfErr end (IsStop (IsCourse before after words s0 s1) s0 s1)
-  words_stopped h =
-      subst (λ (c : Command). IfErr end (IsStop (IsCourse before after c s0 s1) s0 s1)) is
-      (subst (λ (x : Result Outcome Stop). IfErr x (IsStop (IsCourse before after command s0 s1) s0 s1)) (sym e) (unmarked_stopped (IsCourse before after command s0 s1) s0 s1 r h))
+  -- a command without fault lines, which the words are, was stopped; it asked nothing of stores
+  pub words_stopped : after.stores ≡ before.stores → IfErr r (IsStop (IsCourse before after command s0 s1) s0 s1) → IfErr end (IsStopFrom (after.stores ≡ before.stores) (IsCourse before after words s0 s1) s0 s1)
+  words_stopped same h =
+      let Unbegun : Type 0 = after.stores ≡ before.stores in
+      subst (λ (c : Command). IfErr end (IsStopFrom Unbegun (IsCourse before after c s0 s1) s0 s1)) is
+      (subst (λ (x : Result Outcome Stop). IfErr x (IsStopFrom Unbegun (IsCourse before after command s0 s1) s0 s1)) (sym e)
+      (unmarked_stopped (IsCourse before after command s0 s1) s0 s1 Unbegun same r h))

@@ -1,5 +1,5 @@
 -- What holds of a run whose sink has taken some of its lines holds after it took more.
-use Rattle.std.proofs.Common.{◌≡◌, ◌≤◌, inl, inr, ◌∙◌, ℕ, List, ◌++◌, Option, ap, append_assoc, string_bytes, sym, subst}
+use Rattle.std.proofs.Common.{◌≡◌, ◌≤◌, inl, inr, ◌∙◌, ℕ, List, ◌++◌, Option, ap, append_assoc, refl, string_bytes, sym, subst}
 use Rattle.mix_base.proofs.Risen.{risen_before}
 use Rattle.mix_io.specs.Views.{SinkView}
 use Rattle.mix_io.specs.Contents.{Appends, AppendsPrefix}
@@ -11,13 +11,13 @@ use Rattle.xmas_read.specs.Results.{names_of_sources}
 use Rattle.mix_top.specs.Answered.{IsAnswered, IsFrugal, in_order}
 use Rattle.mix_top.specs.Commands.{Command, help, version, walk, read, plan, check, run, count, exec, loop, load, unknown}
 use Rattle.mix_top.specs.Course.{IsCourse}
-use Rattle.mix_top.specs.Ends.{Ends, TookPrefix}
+use Rattle.mix_top.specs.Ends.{Ends, EndsFrom, TookPrefix}
 use Rattle.mix_top.specs.Outside.{Outside}
 use Rattle.mix_top.specs.Question.{Question}
-use Rattle.mix_top.specs.Stops.{IsStop}
+use Rattle.mix_top.specs.Stops.{IsStopFrom}
 use Rattle.mix_top.specs.declared.refusal.Refusal.{Refusal}
 use Rattle.mix_top.specs.declared.refusal.Stop.TheVariants.{Refused}
-use Rattle.mix_top.proofs.Lines.{prefix_on, nothing_more}
+use Rattle.mix_top.proofs.Lines.{prefix_on, nothing_more, nothing_of}
 
 -- a sink took some lines more
 abbrev pub TookOn : SinkView → SinkView → Type 0
@@ -76,14 +76,14 @@ ends_on Course before after status (inl w) = (w.lines, w.written)
 ends_on Course before after status (inr (inl w)) = prefix_on w.prefix.1 before.written after.written w.prefix.3
 ends_on Course before after status (inr (inr w)) =
     elim w.prefix [
-      | inl same ↦ subst (λ (x : Option (List ℕ)). (more : List ℕ) × Appends before.written x more) (sym same) (nothing_more before.written)
+      | inl same ↦ subst (λ (x : Option (List ℕ)). (more : List ℕ) × Appends before.written x more) (sym same.1) (nothing_more before.written)
       | inr prefix ↦ prefix_on prefix.1 before.written after.written prefix.3
     ]
 
 -- the refusal of a command is its course, and its line is written, or cut short
 pub refused_ends : (o o' : Outside) (command : Command) (before mid after : SinkView) (r : Refusal) (status : ℕ) → before.faults ≤ mid.faults
-    → IsStop (IsCourse o o' command before mid) before mid (Refused r) → Ends (λ s lines. (s ≡ r.status) × (lines ≡ string_bytes r.line)) mid after status
-    → Ends (IsCourse o o' command before after) before after status
+    → IsStopFrom (o'.stores ≡ o.stores) (IsCourse o o' command before mid) before mid (Refused r) → Ends (λ s lines. (s ≡ r.status) × (lines ≡ string_bytes r.line)) mid after status
+    → EndsFrom (o'.stores ≡ o.stores) (IsCourse o o' command before after) before after status
 refused_ends o o' command before mid after r status steady stop ends = ended ends
   where
     Line : ℕ → List ℕ → Type 0
@@ -101,7 +101,16 @@ refused_ends o o' command before mid after r status steady stop ends = ended end
     prefix : TookPrefix Line mid after → TookPrefix (IsCourse o o' command before after) before after
     prefix f = (f.0, f.1, lines_are f.0 f.1 f.2, subst (λ (x : Option (List ℕ)). AppendsPrefix x after.written f.1) stop.1 f.3)
 
-    ended : Ends Line mid after status → Ends (IsCourse o o' command before after) before after status
+    -- where nothing was written of the refusal's line, no byte was of the lines of the command's course
+    nothing : after.written ≡ mid.written → TookPrefix (IsCourse o o' command before after) before after
+    nothing same = (
+      r.status,
+      string_bytes r.line,
+      lines_are r.status (string_bytes r.line) (refl, refl),
+      subst (λ (x : Option (List ℕ)). AppendsPrefix before.written x (string_bytes r.line)) (sym (same ∙ stop.1)) (nothing_of before.written (string_bytes r.line)),
+    )
+
+    ended : Ends Line mid after status → EndsFrom (o'.stores ≡ o.stores) (IsCourse o o' command before after) before after status
     ended (inl w) = inl (record { lines = w.lines; course = lines_are status w.lines w.course; written = subst (λ (x : Option (List ℕ)). Appends x after.written w.lines) stop.1 w.written })
     ended (inr (inl w)) = inr (inl (record { five = w.five; cause = risen_before before.faults mid.faults after.faults steady w.cause; prefix = prefix w.prefix }))
-    ended (inr (inr w)) = inr (inr (record { six = w.six; prefix = elim w.prefix [ inl same ↦ inl (same ∙ stop.1) | inr f ↦ inr (prefix f) ] }))
+    ended (inr (inr w)) = inr (inr (record { six = w.six; prefix = elim w.prefix [ inl same ↦ inr (nothing same.1) | inr f ↦ inr (prefix f) ] }))

@@ -25,7 +25,8 @@ use Rattle.mix_top.specs.Ends.{TookPrefix}
 use Rattle.mix_top.specs.declared.asked.Asked.{Asked}
 use Rattle.mix_top.specs.Question.{Question, IsPlanDocument}
 use Rattle.mix_top.specs.Running.{ArePlaced, IsLinesEnd, IsPlanOver, LinesOver, by_fills, documents_of, placed_of, question}
-use Rattle.mix_top.proofs.Answering.{Frugal, IsAnswering, IsManner, answering, prefix_of}
+use Rattle.mix_top.proofs.Answering.{Frugal, IsAnswering, IsManner, answering, prefix_of, unanswered}
+use Rattle.mix_top.proofs.Lines.{nothing_of}
 use Rattle.mix_top.proofs.ReadTables.{plan_within}
 use Rattle.mix_top.specs.Stops.{IsDoneAlong, end_of, outcome_of, outcome_status}
 
@@ -133,5 +134,13 @@ module _ (files : FilesView) (a b : Reaching) (came : CameFrom a b) (asked : Ask
   pub lines_end : (r : Result Bool LinesFault) → Ends (plan_course st) (view_of a) (view_of b) names steps before after r → IsLinesEnd Answers before after (end_of r)
   lines_end (Ok marked) w = whole marked w
   lines_end (Err lines_fault.SinkFailed) w = (w.0, within w.1)
-  lines_end (Err lines_fault.OutOfMemory) (inl w) = inr (between w)
-  lines_end (Err lines_fault.OutOfMemory) (inr w) = inr (within w)
+  lines_end (Err lines_fault.OutOfMemory) (inl w) = between w
+  lines_end (Err lines_fault.OutOfMemory) (inr w) = within w
+
+-- where memory ran out before the first step of a run over sources of which no fill was asked, nothing was written of the run's lines
+pub lines_unbegun : (a b : Reaching) → CameFrom a b → (asked : Asked) (t : LabelledTree) → IsPlanDocument (documents_of (stores_of a) (placed_of a)) (plan_value asked.plan).ops t → b.fills ≡ 0
+    → b.mounted.tables.pages ≤ a.mounted.tables.pages + b.fills → (before : SinkView) → IsLinesEnd (LinesOver (by_fills b.fills) (stores_of a) (stores_of b) (placed_of a) asked) before before (Err lines_fault.OutOfMemory)
+lines_unbegun a b came asked t is_document none few before =
+    let q = question (stores_of a) (placed_of a) asked t in
+    let f = unanswered (in_order q) a b came asked.catalog (plan_value asked.plan).ops asked.steps.items t none few before (in_order_is_manner q) ([], refl) in
+    (f.status, f.lines, (t, is_document, f.is), nothing_of before.written f.lines)

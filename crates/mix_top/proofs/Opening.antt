@@ -1,5 +1,5 @@
 -- Sources that are opened over stores, and that hand them back.
-use Rattle.std.proofs.Common.{◌≡◌, ◌∙◌, ℕ, List, ap, refl}
+use Rattle.std.proofs.Common.{◌≡◌, ◌∙◌, List, ap}
 use Rattle.far_keep.specs.Views.{FarsView}
 use Rattle.mix_mount.specs.declared.mount.Mount.{Mount}
 use Rattle.mix_mount.specs.declared.mounted.Mounted.{Mounted}

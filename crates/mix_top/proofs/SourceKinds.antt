@@ -1,5 +1,5 @@
 -- What a source of a kind is: a file that is read whole, a table, or a source of another machine.
-use Rattle.std.proofs.Common.{◌≡◌, ◌⊎◌, inl, inr, true, false, Option, Some, None, refl}
+use Rattle.std.proofs.Common.{◌≡◌, ◌⊎◌, inl, inr, true, false, Some, None, refl}
 use Rattle.far_keep.specs.declared.far_source.FarSource.{FarSource}
 use Rattle.mix_catalog.specs.declared.source.SourceKind.{SourceKind}
 use Rattle.mix_catalog.specs.declared.source.SourceKind.TheVariants.{Bracket, Csv, Table, Remote}

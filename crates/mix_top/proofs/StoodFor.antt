@@ -55,6 +55,26 @@ ends_stood c old new a b stand names steps before after r h =
       tree = λ tolls t is. (let few = lazy.tree tolls t is in omega (arith, few, stand.fills));
     }
 
+-- where no fill was asked, no more pages were than fills
+pub few_unfilled : (a b : Reaching) → CameFrom a b → b.fills ≡ 0 → b.mounted.tables.pages ≤ a.mounted.tables.pages + b.fills
+few_unfilled a b came none = few came.pages
+  where
+    few : AreFewPages a b → b.mounted.tables.pages ≤ a.mounted.tables.pages + b.fills
+    few (inl h) = omega (arith, h, none)
+    few (inr h) = omega (arith, h, none)
+
+module _ (asked : Asked) (before after : SinkView) (end : Result Outcome LinesFault) (a b : Reaching)
+    (h : IsLinesEnd (LinesOver (by_fills b.fills) (stores_of a) (stores_of b) (placed_of a) asked) before after end) where
+  -- the lines of a run over sources that were reached ended as they did, whatever the sources are called
+  pub end_stood : (place : Placed) (stores stores' : StoresView) (fills : ℕ) (end' : Result Outcome LinesFault) → placed_of a ≡ place → stores_of a ≡ stores → stores_of b ≡ stores' → fills ≡ b.fills → end' ≡ end
+      → IsLinesEnd (LinesOver (by_fills fills) stores stores' place asked) before after end'
+  end_stood place stores stores' fills end' d t t' f e =
+      subst (λ (x : Placed). IsLinesEnd (LinesOver (by_fills fills) stores stores' x asked) before after end') d
+      (subst (λ (x : StoresView). IsLinesEnd (LinesOver (by_fills fills) x stores' (placed_of a) asked) before after end') t
+      (subst (λ (x : StoresView). IsLinesEnd (LinesOver (by_fills fills) (stores_of a) x (placed_of a) asked) before after end') t'
+      (subst (λ (x : ℕ). IsLinesEnd (LinesOver (by_fills x) (stores_of a) (stores_of b) (placed_of a) asked) before after end') (sym f)
+      (subst (λ (x : Result Outcome LinesFault). IsLinesEnd (LinesOver (by_fills b.fills) (stores_of a) (stores_of b) (placed_of a) asked) before after x) (sym e) h))))
+
 module _ (old new : View) (asked : Asked) (before after : SinkView) (end : Result Outcome LinesFault) (files : FilesView) (a b : Reaching) (over : IsEndOver old new asked before after end)
     (placed : ArePlaced files (plan_value asked.plan).ops asked.catalog (placed_of a)) (unasked : a.fills ≡ 0) (stand : StandIn old new a b) (most : b.mounted.tables.pages ≤ 2 ^ 64 - 1) where
   -- no more pages were asked than fills
@@ -65,10 +85,4 @@ module _ (old new : View) (asked : Asked) (before after : SinkView) (end : Resul
   -- the lines of a run over sources that stood in for others ended as over these, whatever they are called
   pub reached_end : (place : Placed) (stores stores' : StoresView) (fills : ℕ) (end' : Result Outcome LinesFault) → placed_of a ≡ place → stores_of a ≡ stores → stores_of b ≡ stores' → fills ≡ b.fills → end' ≡ end
       → IsLinesEnd (LinesOver (by_fills fills) stores stores' place asked) before after end'
-  reached_end place stores stores' fills end' d t t' f e =
-      subst (λ (x : Placed). IsLinesEnd (LinesOver (by_fills fills) stores stores' x asked) before after end') d
-      (subst (λ (x : StoresView). IsLinesEnd (LinesOver (by_fills fills) x stores' (placed_of a) asked) before after end') t
-      (subst (λ (x : StoresView). IsLinesEnd (LinesOver (by_fills fills) (stores_of a) x (placed_of a) asked) before after end') t'
-      (subst (λ (x : ℕ). IsLinesEnd (LinesOver (by_fills x) (stores_of a) (stores_of b) (placed_of a) asked) before after end') (sym f)
-      (subst (λ (x : Result Outcome LinesFault). IsLinesEnd (LinesOver (by_fills b.fills) (stores_of a) (stores_of b) (placed_of a) asked) before after x) (sym e)
-      (over files a b placed unasked stand (few stand.came.pages))))))
+  reached_end = end_stood asked before after end a b (over files a b placed unasked stand (few stand.came.pages))

@@ -1,19 +1,15 @@
 -- Which files a command may read: each after those that are accepted before it.
-use Rattle.std.specs.Prelude.{◌≡◌, ◌⊎◌, ℕ, Bool, true, IsTrue, List, Some, slice_get}
+use Rattle.std.specs.Prelude.{◌≡◌, ◌⊎◌, ℕ, Bool, List, Some, slice_get}
 use Rattle.mix_tree.specs.Forest.{LabelledTree}
 use Rattle.mix_io.specs.Views.{FilesView}
 use Rattle.mix_script.specs.declared.step.Step.{Step}
 use Rattle.mix_catalog.specs.declared.source.SourceSpec.{SourceSpec}
-use Rattle.mix_catalog.specs.Grammar.{file_of}
 use Rattle.plan_core.specs.Plans.{Operator}
 use Rattle.mix_top.specs.Commands.{Command, help, version, walk, read, plan, check, run, count, exec, loop, load, unknown}
 use Rattle.mix_top.specs.Course.{AreAccepted, IsCatalogFile, IsScript, PlanFile, by_text, by_view}
 use Rattle.view_class.specs.Reads.{reads_source}
-use Rattle.mix_top.specs.Documents.{SpellsTree, IsDocument, is_file_of}
-
--- of no path but those that a given property lets be read was more read than before
-abbrev pub ReadsAmong : (List ℕ → Type 0) → FilesView → FilesView → Type 0
-ReadsAmong May old new = (path : List ℕ) → ¬ May path → new.furthest path ≡ old.furthest path
+use Rattle.mix_top.specs.Documents.{SpellsTree, IsDocument}
+use Rattle.mix_top.specs.Reading.{IsFileFor}
 
 -- the files that a walk may read: its document, and after an accepted one its script
 abbrev pub WalkMayRead : FilesView → List ℕ → List ℕ → List ℕ → Type 0
@@ -22,14 +18,6 @@ WalkMayRead files file script path = (path ≡ file) ⊎ ((path ≡ script) × (
 -- the files that reading a view or a plan text may read: the catalog, and after an accepted one that file
 abbrev pub FileMayRead : FilesView → List ℕ → List ℕ → List ℕ → Type 0
 FileMayRead files file catalog path = (path ≡ catalog) ⊎ ((path ≡ file) × (sources : List SourceSpec) × IsCatalogFile files catalog sources)
-
--- a path is that of a source's file, which is read whole: those of tables and of other machines' sources are not
-abbrev pub IsWholeFile : SourceSpec → List ℕ → Type 0
-IsWholeFile spec path = (is_file_of spec.kind ≡ true) × (path ≡ file_of spec.kind)
-
--- a path is that of the file of a chosen source, where that is read whole
-abbrev pub IsFileFor : (ℕ → Bool) → ℕ → SourceSpec → List ℕ → Type 0
-IsFileFor chosen s spec path = IsTrue (chosen s) × IsWholeFile spec path
 
 -- the files of chosen sources that may be read: each where those of all chosen sources before it are accepted
 abbrev pub ChosenMayRead : FilesView → (ℕ → Bool) → List SourceSpec → List ℕ → Type 0

@@ -78,7 +78,7 @@ pub fn count_ready<T: Tables, R: Fars, K: Sink>(
     ensures done { let old = stores_in T.view R.view stores in let new = stores_in T.view R.view result.1 in
         IfOk result.0 (IsDoneAlong (LinesOver lines_of_count old new (placed ready) ready.asked) (K.view out.old) (K.view out.new)) }
     ensures stop { let old = stores_in T.view R.view stores in let new = stores_in T.view R.view result.1 in
-        IfErr result.0 (IsStopAlong (LinesOver lines_of_count old new (placed ready) ready.asked) (K.view out.old) (K.view out.new)) }
+        IfErr result.0 (IsStopAlong (new ≡ old) (LinesOver lines_of_count old new (placed ready) ready.asked) (K.view out.old) (K.view out.new)) }
     ensures count { (K.view out.old).faults ≤ (K.view out.new).faults }
 {
     let commands = ready.asked.steps.as_slice().len() as u64;

@@ -8,6 +8,7 @@ ghost use Rattle.mix_top.specs.Running.{ArePlaced, IsLinesEnd, IsPlanOver, Lines
 
 use crate::asked::{Answered, Ready, answer_over, hand_back};
 use far_keep::Fars;
+use lazy_value::valid_plans_have_documents;
 use mix_io::Sink;
 use mix_lines::LinesFault;
 use mix_loop::{close_loop, open_loop};
@@ -33,6 +34,7 @@ pub fn answer_looped<T: Tables, R: Fars, K: Sink>(
     ensures pages { result.spent.pages ≡ (T.view result.stores.tables).pages - (T.view stores.tables).pages }
     ensures count { (K.view out.old).faults ≤ (K.view out.new).faults }
 {
+    valid_plans_have_documents();
     let before = stores.tables.pages();
     let Ready { asked, docs, sites } = ready;
     let Stores { tables, fars } = stores;

@@ -6,7 +6,8 @@ ghost use Rattle.mix_mount.specs.declared.mount.Mount.TheVariants.{Absent};
 ghost use Rattle.plan_core.specs.PlanMade.{plan_value};
 ghost use Rattle.mix_top.specs.Course.{every};
 ghost use Rattle.mix_top.specs.Mounting.{AllAreMounted, AreMounted, IsMountStop, IsMountedSpec, IsMountFor, IsSourceStop, IsSpecStop};
-ghost use Rattle.mix_top.specs.FilesRead.{ChosenMayRead, ReadsAmong, IsFileFor, IsWholeFile, SourceMayRead};
+ghost use Rattle.mix_top.specs.FilesRead.{ChosenMayRead, SourceMayRead};
+ghost use Rattle.mix_top.specs.Reading.{ReadsAmong, IsFileFor, IsWholeFile};
 ghost use Rattle.view_class.specs.Reads.{reads_source};
 
 use crate::load::{mount_table, mount_tree};

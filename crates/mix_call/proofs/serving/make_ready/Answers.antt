@@ -15,7 +15,7 @@ pub returns-in_err-sources-clause-err : goal.returns-in_err-sources-clause-err
 returns-in_err-sources-clause-err g c =
     let view = g.F.Files.view in
     let p = err_from_is_err_and c.from_residual.result c.from_residual.ensures.1 in
-    rw (p.1, p.2) (catalog_stops (view c.args.files.now) (view c.load_catalog.new.files) c.args.catalog.now _ c.in_err-sources.ensures.err)
+    rw (p.1, p.2) (catalog_stops (view c.args.files.now) (view c.load_catalog.new.files) c.args.catalog.now _ c.in_err-sources.ensures.others c.in_err-sources.ensures.err)
 
 pub returns-in_err-docs-clause-keeps : goal.returns-in_err-docs-clause-keeps
 returns-in_err-docs-clause-keeps g c =
@@ -35,7 +35,7 @@ returns-in_err-docs-clause-err g c =
     let mid = view c.load_catalog.new.files in
     let p = err_from_is_err_and c.from_residual-in_err-docs.result c.from_residual-in_err-docs.ensures.1 in
     rw (p.1, p.2) (sources_stop old mid (view c.mount_all.new.files) c.args.catalog.now c.in_ok-sources.sources _ (is_steady old mid c.in_ok-sources.ensures.keeps c.in_ok-sources.ensures.steady)
-    c.in_ok-sources.ensures.ok c.in_err-docs.ensures.err)
+    c.in_ok-sources.ensures.ok c.in_ok-sources.ensures.others c.in_err-docs.ensures.err)
 
 pub returns-clause-reads : goal.returns-clause-reads
 returns-clause-reads g c =

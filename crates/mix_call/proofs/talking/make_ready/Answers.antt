@@ -1,4 +1,4 @@
-use Rattle.std.proofs.Common.{ℕ, List}
+use Rattle.std.proofs.Common.{◌≡◌, ℕ, List}
 use Rattle.std.proofs.lemmas.Result.{err_from_is_err_and}
 use Rattle.mix_catalog.specs.declared.source.SourceSpec.{SourceSpec}
 use Rattle.plan_core.specs.PlanMade.{plan_value}
@@ -10,6 +10,8 @@ use Rattle.mix_top.specs.FilesRead.{SourceMayRead}
 use Rattle.mix_top.proofs.MountLaws.{is_steady, steady_twice}
 use Rattle.view_class.specs.Reads.{reads_source}
 use Rattle.mix_top.proofs.FilesRead.{reads_catalog, reads_view}
+use Rattle.mix_top.specs.Reading.{IsEither}
+use Rattle.mix_top.proofs.ReadingLaws.{reads_more}
 use Rattle.mix_top.proofs.Readiness.{gives_before, plan_before, mounts_before, file_unready}
 use Rattle.mix_call.proofs.Readying.{sources_read, sources_unready}
 use Rattle.mix_call.proofs.talking.make_ready.Goals as goal
@@ -24,8 +26,8 @@ returns-in_err-plan-clause-err g c =
     let old = view c.args.files.now in
     let mid = view c.load_catalog.new.files in
     let p = err_from_is_err_and c.from_residual-in_err-plan.result c.from_residual-in_err-plan.ensures.1 in
-    rw (p.1, p.2) (file_unready by_view (λ sources ops. IsSourceRefused old (view c.load_view.new.files) ops sources) old mid (view c.load_view.new.files) c.args.talking.now.view.now c.args.talking.now.catalog.now c.in_ok-catalog.catalog _
-    (is_steady old mid c.in_ok-catalog.ensures.keeps c.in_ok-catalog.ensures.steady) c.in_ok-catalog.ensures.ok c.in_err-plan.ensures.err)
+    rw (p.1, p.2) (file_unready by_view (λ sources ops. IsSourceRefused (IsEither c.args.talking.now.catalog.now c.args.talking.now.view.now) old (view c.load_view.new.files) ops sources) old mid (view c.load_view.new.files) c.args.talking.now.view.now c.args.talking.now.catalog.now c.in_ok-catalog.catalog _
+    (is_steady old mid c.in_ok-catalog.ensures.keeps c.in_ok-catalog.ensures.steady) c.in_ok-catalog.ensures.ok c.in_ok-catalog.ensures.others c.in_err-plan.ensures.err c.in_err-plan.ensures.others)
 
 pub returns-in_err-docs-clause-keeps : goal.returns-in_err-docs-clause-keeps
 returns-in_err-docs-clause-keeps g c =
@@ -45,7 +47,8 @@ returns-in_err-docs-clause-err g c =
     let one = is_steady old mid c.in_ok-catalog.ensures.keeps c.in_ok-catalog.ensures.steady in
     let two = steady_twice old mid late one (is_steady mid late c.in_ok-plan.ensures.keeps c.in_ok-plan.ensures.steady) in
     rw (p.1, p.2) (sources_unready old late (view c.mount_sources.new.files) c.args.talking.now.view.now c.args.talking.now.catalog.now c.in_ok-catalog.catalog (plan_value c.in_ok-plan.plan).ops _ two c.in_ok-catalog.ensures.ok
-    (gives_before old mid c.args.talking.now.view.now c.in_ok-catalog.catalog (plan_value c.in_ok-plan.plan) one.keeps c.in_ok-plan.ensures.ok) c.in_err-docs.ensures.err)
+    (gives_before old mid c.args.talking.now.view.now c.in_ok-catalog.catalog (plan_value c.in_ok-plan.plan) one.keeps c.in_ok-plan.ensures.ok)
+    (reads_more (λ p. p ≡ c.args.talking.now.catalog.now) (λ p. p ≡ c.args.talking.now.view.now) old mid late c.in_ok-catalog.ensures.others c.in_ok-plan.ensures.others) c.in_err-docs.ensures.err)
 
 pub returns-clause-ok : goal.returns-clause-ok
 returns-clause-ok g c =

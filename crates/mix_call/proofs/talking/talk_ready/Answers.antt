@@ -1,6 +1,7 @@
 use Rattle.std.proofs.Common.{◌≤◌, ◌+◌, ap, arith, subst, sym}
 use Rattle.mix_reach.specs.Reach.{reaching_in}
 use Rattle.mix_reach.specs.Stores.{StoresView, stores_in, stores_of}
+use Rattle.xmas_read.specs.Results.{names_of_sources}
 use Rattle.mix_top.specs.Running.{Placed, placed_of}
 use Rattle.mix_call.specs.Ends.{TalkedAlong}
 use Rattle.mix_call.specs.Over.{TalkOver, placed}
@@ -20,7 +21,7 @@ returns-clause-end g c =
     let same = ap (λ (v : StoresView). v.tables.pages) parts in
     let few : new.mounted.tables.pages ≤ old.mounted.tables.pages + new.fills = omega (arith, none, pages, same) in
     let Along : Placed → StoresView → StoresView → Type 0 = λ place before after.
-    TalkedAlong (TalkOver new.fills before after place c.args.ready.basis) (input c.args.streams.now.input) (input c.talk_over-end.new.streams.input)
+    TalkedAlong (names_of_sources c.args.ready.basis.catalog) (TalkOver new.fills before after place c.args.ready.basis) (input c.args.streams.now.input) (input c.talk_over-end.new.streams.input)
     (sink c.args.streams.now.out) (sink c.talk_over-end.new.streams.out) c.talk_over-end.result in
     let after : StoresView = stores (record { tables = c.into_tables-tables.result; fars = c.into_parts-mounted.result.1 }) in
     let opened = stores_new g.T.Tables.view g.R.Fars.view c.args.stores c.new.result c.new-sources.result c.new.ensures.tables c.new-sources.ensures.mounted c.new-sources.ensures.fars in

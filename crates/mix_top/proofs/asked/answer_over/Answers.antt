@@ -1,4 +1,5 @@
-use Rattle.std.proofs.Common.{◌≡◌, ◌∙◌, ap, sym, subst, Result, List, ℕ, Bool, true}
+use Rattle.std.proofs.Common.{◌≡◌, ◌∙◌, ap, arith, sym, subst, Result, List, ℕ, Bool, true}
+use Rattle.std.proofs.lemmas.Result.{err_from_is_err_and}
 use Rattle.std.proofs.Math.Path.{fun_ext}
 use Rattle.std.specs.List.{list_all}
 use Rattle.plan_core.specs.Plans.{Operator}
@@ -14,10 +15,10 @@ use Rattle.mix_top.specs.declared.refusal.Outcome.{Outcome}
 use Rattle.mix_lines.specs.declared.fault.LinesFault.{LinesFault}
 use Rattle.lazy_binding.specs.World.{reads}
 use Rattle.mix_reach.specs.Stores.{stores_of}
-use Rattle.mix_top.specs.Running.{IsLinesEnd, LinesOver, by_fills, placed_of}
+use Rattle.mix_top.specs.Running.{IsLinesEnd, LinesOver, by_fills, documents_of, placed_of}
 use Rattle.mix_top.proofs.Mounts.{reads_forward, reads_told}
 use Rattle.mix_top.proofs.Answering.{document_over, documents_are}
-use Rattle.mix_top.proofs.LinesEnd.{renamed, lines_end}
+use Rattle.mix_top.proofs.LinesEnd.{renamed, lines_end, lines_unbegun}
 use Rattle.mix_top.proofs.ReadTables.{plan_within}
 use Rattle.mix_top.proofs.StoodFor.{ends_stood}
 use Rattle.mix_top.proofs.asked.answer_over.Goals as goal
@@ -45,3 +46,17 @@ returns-clause-end g c = λ files a b place unasked stand few.
     subst (λ (r : Result Outcome LinesFault). IsLinesEnd (LinesOver (by_fills b.fills) (stores_of a) (stores_of b) (placed_of a) asked) before after r) (sym c.end_of.ensures)
     (lines_end files a b stand.came asked place c.requires.over st is (documents_are old a stand.tells m p.ops is) ahead found.0
     (λ all. found.2 (reads_told files p.ops sources a place within all)) unasked few before after found.1 c.run_lines.result ends)
+
+pub returns-in_err-names-clause-end : goal.returns-in_err-names-clause-end
+returns-in_err-names-clause-end g c = λ files a b place unasked stand few.
+    let asked = c.args.asked in
+    let p = err_from_is_err_and c.from_residual.result c.from_residual.ensures.1 in
+    let found = c.valid_plans_have_documents.ensures (plan_value asked.plan) c.requires.over.valid (documents_of (stores_of a) (placed_of a)) in
+    rw (p.1, p.2) (lines_unbegun a b stand.came asked found.0 found.1 (omega (arith, stand.fills, unasked)) few (g.K.Sink.view c.args.out.now))
+
+pub returns-in_err-mediator-clause-end : goal.returns-in_err-mediator-clause-end
+returns-in_err-mediator-clause-end g c = λ files a b place unasked stand few.
+    let asked = c.args.asked in
+    let p = err_from_is_err_and c.from_residual-in_err-mediator.result c.from_residual-in_err-mediator.ensures.1 in
+    let found = c.valid_plans_have_documents.ensures (plan_value asked.plan) c.requires.over.valid (documents_of (stores_of a) (placed_of a)) in
+    rw (p.1, p.2) (lines_unbegun a b stand.came asked found.0 found.1 (omega (arith, stand.fills, unasked)) few (g.K.Sink.view c.args.out.now))

@@ -1,13 +1,15 @@
-use Rattle.std.proofs.Common.{◌∙◌, ◌-◌, ◌^◌, ◌≤◌, ap, inl, refl, sym, subst}
+use Rattle.std.proofs.Common.{◌≡◌, ◌∙◌, ◌+◌, ◌-◌, ◌^◌, ◌≤◌, Err, ap, sym, subst}
+use Rattle.mix_lines.specs.declared.fault.LinesFault.TheVariants.{OutOfMemory}
 use Rattle.lxp_remote.specs.Remotes as remote
 use Rattle.lxp_wire.specs.Stream.{sources_of}
 use Rattle.mix_loop.specs.Loops.{looped}
 use Rattle.mix_reach.specs.Reach.{reaching_in}
 use Rattle.mix_reach.specs.Stores.{KeepsStores, StoresView, stores_in, stores_of}
 use Rattle.plan_core.specs.PlanMade.{plan_value}
-use Rattle.mix_top.specs.Running.{ArePlaced, IsLinesEnd, LinesOver, Placed, by_fills, placed}
+use Rattle.mix_top.specs.Running.{ArePlaced, Placed, documents_of, placed, placed_of}
+use Rattle.mix_top.proofs.LinesEnd.{lines_unbegun}
 use Rattle.mix_top.proofs.Opening.{placed_new, stores_new}
-use Rattle.mix_top.proofs.StoodFor.{reached_end}
+use Rattle.mix_top.proofs.StoodFor.{end_stood, few_unfilled, reached_end}
 use Rattle.mix_top.proofs.looping.answer_looped.Goals as goal
 
 pub returns-in-Ok-clause-end : goal.returns-in-Ok-clause-end
@@ -49,7 +51,17 @@ returns-in-Ok-clause-keeps g c =
 
 pub returns-in-Err-clause-end : goal.returns-in-Err-clause-end
 returns-in-Err-clause-end g c =
-    let stores = stores_in g.T.Tables.view g.R.Fars.view in
+    let view = g.T.Tables.view in
+    let far = g.R.Fars.view in
+    let asked = c.args.ready.asked in
+    let a = reaching_in view far c.new-sources.result in
+    let b = reaching_in view far c.in-Err.kept in
     let before = g.K.Sink.view c.args.out.now in
-    subst (λ end. IsLinesEnd (LinesOver (by_fills c.hand_back-in-Err.result.spent.fills) (stores c.args.stores) (stores c.hand_back-in-Err.result.stores) (placed c.args.ready) c.args.ready.asked) before before end)
-    (sym c.hand_back-in-Err.ensures.end) (inl refl)
+    let none : b.fills ≡ 0 = c.in-Err.ensures.unasked ∙ c.new-sources.ensures.fills in
+    let found = c.valid_plans_have_documents.ensures (plan_value asked.plan) c.requires.over.valid (documents_of (stores_of a) (placed_of a)) in
+    let few : b.mounted.tables.pages ≤ a.mounted.tables.pages + b.fills = few_unfilled a b c.in-Err.ensures.refused none in
+    let place = placed_new view far (placed c.args.ready) c.new.result c.new-sources.result c.new.ensures.docs c.new-sources.ensures.mounted c.new-sources.ensures.sites in
+    end_stood asked before before (Err OutOfMemory) a b (lines_unbegun a b c.in-Err.ensures.refused asked found.0 found.1 none few before) (placed c.args.ready) (stores_in view far c.args.stores)
+    (stores_in view far c.hand_back-in-Err.result.stores) c.hand_back-in-Err.result.spent.fills c.hand_back-in-Err.result.end place
+    (stores_new view far c.args.stores c.new.result c.new-sources.result c.new.ensures.tables c.new-sources.ensures.mounted c.new-sources.ensures.fars) (sym c.hand_back-in-Err.ensures.stores)
+    c.hand_back-in-Err.ensures.fills c.hand_back-in-Err.ensures.end

@@ -1,6 +1,6 @@
 use Rattle.mix_top.proofs.MountLaws.{IsSteady, AreMountedTo}
 use Rattle.mix_top.specs.Course.{every}
-use Rattle.mix_top.specs.FilesRead.{ChosenMayRead, ReadsAmong}
+use Rattle.mix_top.specs.Reading.{IsFileBefore, ReadsAmong}
 use Rattle.mix_top.proofs.mounting.mount_all.Given as goal
 
 abbrev pub invariant-loop-s : goal.invariant-loop-s
@@ -8,6 +8,6 @@ invariant-loop-s g l =
     let view = g.F.Files.view in
     record {
       steady : IsSteady (view l.initial.files) (view l.files);
-      reads : ReadsAmong (ChosenMayRead (view l.initial.files) every l.catalog) (view l.initial.files) (view l.files);
+      reads : ReadsAmong (IsFileBefore every l.catalog l.s) (view l.initial.files) (view l.files);
       mounted : AreMountedTo (view l.initial.files) every l.catalog l.s l.docs.items;
     }

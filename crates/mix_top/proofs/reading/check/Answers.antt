@@ -7,7 +7,8 @@ use Rattle.mix_top.specs.Causes.{IsNoPlan}
 use Rattle.mix_top.specs.Course.{Checks, IsPlanFile, classed_lines}
 use Rattle.mix_top.specs.FilesRead.{FileMayRead}
 use Rattle.mix_top.specs.Stops.{IsCut}
-use Rattle.mix_top.proofs.FilesRead.{reads_one, file_reads}
+use Rattle.mix_top.proofs.FilesRead.{file_reads}
+use Rattle.mix_top.proofs.ReadingLaws.{reads_one}
 use Rattle.mix_top.proofs.Readiness.{plan_file_before}
 use Rattle.mix_top.proofs.StopLaws.{file_stops, file_course, written_done, written_stopped}
 use Rattle.mix_top.proofs.reading.check.Goals as goal
@@ -17,7 +18,7 @@ returns-in_err-checked-clause-stop g c =
     let view = g.F.Files.view in
     let p = err_from_is_err_and c.from_residual-in_err-checked.result c.from_residual-in_err-checked.ensures.1 in
     rw (p.1, p.2) (file_stops PlanValue IsNoPlan (IsPlanFile (view c.args.files.now) c.args.plan.now) classed_lines (view c.args.files.now) (view c.load_plan.new.files) c.args.plan.now c.args.catalog.now (view c.load_catalog.new.files) _ c.in_ok-sources.sources _
-    c.in_ok-sources.ensures.keeps c.in_ok-sources.ensures.steady c.in_ok-sources.ensures.ok c.in_err-checked.ensures.err)
+    c.in_ok-sources.ensures.keeps c.in_ok-sources.ensures.steady c.in_ok-sources.ensures.ok c.in_ok-sources.ensures.others c.in_err-checked.ensures.err c.in_err-checked.ensures.others)
 
 pub returns-clause-done : goal.returns-clause-done
 returns-clause-done g c =

@@ -1,4 +1,4 @@
-use Rattle.std.proofs.Common.{sym, subst, Result, IfOk, IfErr}
+use Rattle.std.proofs.Common.{◌≡◌, sym, subst, Result, IfOk, IfErr}
 use Rattle.mix_top.specs.declared.refusal.Outcome.{Outcome}
 use Rattle.mix_top.specs.declared.refusal.Stop.{Stop}
 use Rattle.mix_top.specs.declared.running.RunForm.{RunForm}
@@ -6,7 +6,7 @@ use Rattle.mix_top.specs.declared.running.RunForm.TheVariants.{Answers, Executed
 use Rattle.mix_top.specs.Course.{lines_of_run}
 use Rattle.mix_reach.specs.Stores.{stores_in}
 use Rattle.mix_top.specs.Running.{LinesOver, placed, run_lines}
-use Rattle.mix_top.specs.Stops.{IsDoneAs, IsStop}
+use Rattle.mix_top.specs.Stops.{IsDoneAs, IsStopFrom}
 use Rattle.mix_top.proofs.Forms.{of_either}
 use Rattle.mix_top.proofs.RunCourse.{ended_done, ended_stopped}
 use Rattle.mix_top.proofs.running.run_ready.Goals as goal
@@ -42,9 +42,9 @@ returns-in-Answers-clause-stop g c =
     let before = g.K.Sink.view c.args.out.now in
     let after = g.K.Sink.view c.answer-answered.new.out in
     let stopped =
-    subst (λ (r : Result Outcome Stop). IfErr r (IsStop (LinesOver lines_of_run old new p asked before after) before after)) (sym c.ended.ensures)
+    subst (λ (r : Result Outcome Stop). IfErr r (IsStopFrom (new ≡ old) (LinesOver lines_of_run old new p asked before after) before after)) (sym c.ended.ensures)
     (ended_stopped old new p asked before after c.answer-answered.result.spent.fills c.answer-answered.result.end c.answer-answered.ensures.end) in
-    of_either (λ form. IfErr c.ended.result (IsStop (LinesOver (run_lines form) old new p asked before after) before after)) c.args.form Answers Executed c.in-Answers.is stopped stopped
+    of_either (λ form. IfErr c.ended.result (IsStopFrom (new ≡ old) (LinesOver (run_lines form) old new p asked before after) before after)) c.args.form Answers Executed c.in-Answers.is stopped stopped
 
 pub returns-in-Counts-clause-stop : goal.returns-in-Counts-clause-stop
 returns-in-Counts-clause-stop g c =
@@ -52,7 +52,7 @@ returns-in-Counts-clause-stop g c =
     let new = stores_in g.T.Tables.view g.R.Fars.view c.count_ready.result.1 in
     let before = g.K.Sink.view c.args.out.now in
     let after = g.K.Sink.view c.count_ready.new.out in
-    subst (λ (form : RunForm). IfErr c.count_ready.result.0 (IsStop (LinesOver (run_lines form) old new (placed c.args.ready) c.args.ready.asked before after) before after)) (sym c.in-Counts.is)
+    subst (λ (form : RunForm). IfErr c.count_ready.result.0 (IsStopFrom (new ≡ old) (LinesOver (run_lines form) old new (placed c.args.ready) c.args.ready.asked before after) before after)) (sym c.in-Counts.is)
     c.count_ready.ensures.stop
 
 pub returns-in-Looped-clause-done : goal.returns-in-Looped-clause-done
@@ -75,6 +75,6 @@ returns-in-Looped-clause-stop g c =
     let asked = c.args.ready.asked in
     let before = g.K.Sink.view c.args.out.now in
     let after = g.K.Sink.view c.answer_looped-answered.new.out in
-    subst (λ (form : RunForm). IfErr c.ended-in-Looped.result (IsStop (LinesOver (run_lines form) old new p asked before after) before after)) (sym c.in-Looped.is)
-    (subst (λ (r : Result Outcome Stop). IfErr r (IsStop (LinesOver lines_of_run old new p asked before after) before after)) (sym c.ended-in-Looped.ensures)
+    subst (λ (form : RunForm). IfErr c.ended-in-Looped.result (IsStopFrom (new ≡ old) (LinesOver (run_lines form) old new p asked before after) before after)) (sym c.in-Looped.is)
+    (subst (λ (r : Result Outcome Stop). IfErr r (IsStopFrom (new ≡ old) (LinesOver lines_of_run old new p asked before after) before after)) (sym c.ended-in-Looped.ensures)
     (ended_stopped old new p asked before after c.answer_looped-answered.result.spent.fills c.answer_looped-answered.result.end c.answer_looped-answered.ensures.end))

@@ -4,7 +4,7 @@ use Rattle.mix_top.specs.Commands.{command_of}
 use Rattle.mix_top.specs.Course.{IsCourse}
 use Rattle.mix_reach.specs.Stores.{stores_in}
 use Rattle.mix_top.specs.Outside.{outside}
-use Rattle.mix_top.specs.Stops.{IsStop}
+use Rattle.mix_top.specs.Stops.{IsStopFrom}
 use Rattle.mix_top.specs.declared.refusal.Outcome.{Outcome}
 use Rattle.mix_top.specs.declared.refusal.Stop.{Stop}
 use Rattle.mix_top.specs.declared.refusal.Stop.TheVariants.{Refused}
@@ -23,4 +23,4 @@ returns-in-Err-Refused-clause-ends g c =
     let refusal_is = c.in-Err-Refused.refusal-is in
     let is : c.run-end.result.0 ≡ Err (Refused c.in-Err-Refused.refusal) = cc in
     refused_ends before after command s0 s1 (g.K.Sink.view c.refuse.new.out) c.in-Err-Refused.refusal c.refuse.result c.run-end.ensures.count
-    (subst (λ (r : Result Outcome Stop). IfErr r (IsStop (IsCourse before after command s0 s1) s0 s1)) is c.run-end.ensures.stop) c.refuse.ensures.ends
+    (subst (λ (r : Result Outcome Stop). IfErr r (IsStopFrom (after.stores ≡ before.stores) (IsCourse before after command s0 s1) s0 s1)) is c.run-end.ensures.stop) c.refuse.ensures.ends

@@ -60,7 +60,7 @@ pages-preserved g c =
     record {
       count = omega (arith, c.pages.invariant.count, c.refill.ensures.count);
       cutting = cutting_more (view c.args.input.now) (view c.pages.input) c.args.self.now c.pages.self c.pages.line.items c.pages.invariant.cutting (view c.refill.new.input)
-          (record { page = c.refill.new.self; ended = c.is_empty-self.result }) c.move_line.new.page c.move_line.new.line.items moved c.in_ok-refill.ensures.ok empty (search rules);
+          (record { page = c.refill.new.self; ended = c.is_empty-self.result }) c.move_line.new.page c.move_line.new.line.items moved c.in_ok-refill.ensures.ok empty (search rules) c.in_ok-refill.ensures.short;
     }
 
 pub read_whole_line-requires-2 : goal.read_whole_line-requires-2
