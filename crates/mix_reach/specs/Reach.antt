@@ -1,5 +1,5 @@
 -- What mounted documents beside sources of other machines mean as sources.
-use Rattle.std.specs.Prelude.{◌≡◌, ◌⊎◌, ℕ, ◌<◌, ◌≤◌, ◌+◌, ◌-◌, ◌^◌, Bool, true, List, get_or, refl}
+use Rattle.std.specs.Prelude.{◌≡◌, ◌⊎◌, ℕ, ◌<◌, ◌≤◌, ◌+◌, ◌-◌, ◌^◌, Bool, true, false, List, get_or, refl}
 use Rattle.std.proofs.Common.{inl, inr, sym, subst, ap, ◌∙◌, arith}
 use Rattle.mix_tree.specs.Forest.{Forest}
 use Rattle.lxp_core.specs.declared.open_tree.HoleId.{HoleId}
@@ -58,6 +58,11 @@ weight_at v fars s (Far far) = fars.weight far
 abbrev pub forward_at : View → FarsView → ℕ → Site → Bool
 forward_at v fars s Here = v.forward s
 forward_at v fars s (Far far) = fars.told far
+
+-- whether a fill of a source's hole asks a page of a table, by where it is: one of another machine asks none here
+abbrev pub asks_at : Mounting → ℕ → Site → HoleId → Bool
+asks_at m s Here h = mount.asks (mount.mount_at m.docs s) h
+asks_at m s (Far far) h = false
 
 -- how often a source failed, by where it is
 abbrev pub faults_at : View → FarsView → ℕ → Site → ℕ
