@@ -4,7 +4,7 @@ use case_text::Shape::{Nothing, Pieces, Words, WordsAndPieces};
 use case_text::Times::{Often, Once, OnceEach};
 
 /// The parts that a case of documents in pieces may have.
-pub const FORMS: [Form; 21] = [
+pub const FORMS: [Form; 22] = [
     Form("with", Words, OnceEach),
     Form("catalog", Pieces, Once),
     Form("view", Pieces, Once),
@@ -25,5 +25,6 @@ pub const FORMS: [Form; 21] = [
     Form("at-least", Words, Once),
     Form("at-most", Words, Once),
     Form("asked", Words, Once),
+    Form("rows", Words, Once),
     Form("each-fill", Nothing, Once),
 ];

@@ -1,12 +1,12 @@
 // What sources give: a case of fills, each asked by a line of its part `gives`, which also says what is wanted to come.
-use crate::judge::fills_differ;
+use crate::judge::{fills_differ, said};
 use crate::mount::mounted;
 use crate::setting::sources_of;
 use case_text::{Fault, Part, differing_line, differing_number, number, part_of};
 use lxp_core::{HoleId, OpenTree, SourceFault, Sources};
 use mix_tree::push_label;
 use std::alloc::{AllocError, Global};
-use table_keep::Tables;
+use table_keep::{MemTables, Tables};
 
 // A hole of a source.
 #[derive(Clone, Copy)]
@@ -173,6 +173,21 @@ fn memory_differs(
     came_differs(alloc, parts, lines, &came, s.fills())
 }
 
+// What differs of how many pages were asked, and how many rows these were to have.
+fn pages_differ(
+    alloc: Global,
+    parts: &[Part<'_>],
+    tables: &MemTables,
+) -> Result<Option<String>, Fault> {
+    let pages = tables.pages();
+    let found = differing_number(alloc, "pages", said(parts, "asked", pages)?, pages)?;
+    if found.is_some() {
+        return Ok(found);
+    }
+    let rows = tables.rows();
+    differing_number(alloc, "rows", said(parts, "rows", rows)?, rows)
+}
+
 // What differs in a case of mounted documents.
 fn mounted_differs(
     alloc: Global,
@@ -182,11 +197,10 @@ fn mounted_differs(
     let mut s = mounted(alloc, parts)?;
     let came = given_by(alloc, &mut s, lines)?;
     let found = came_differs(alloc, parts, lines, &came, s.fills())?;
-    let pages = s.into_tables().pages();
-    match part_of(parts, "asked") {
-        Some(part) if found.is_none() => differing_number(alloc, "pages", part.number()?, pages),
-        _ => Ok(found),
+    if found.is_some() {
+        return Ok(found);
     }
+    pages_differ(alloc, parts, &s.into_tables())
 }
 
 /// What differs of what the fills of a case give, as lines.

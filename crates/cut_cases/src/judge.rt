@@ -36,8 +36,8 @@ fn lines_differ(
     Ok(Some(format!(in alloc; "  ended {:?}\n", outcome.answer)?))
 }
 
-// The number in the first part that begins with a given word, and where no part does a number that is given.
-fn said(parts: &[Part<'_>], word: &str, other: u64) -> Result<u64, Fault> {
+/// The number in the first part that begins with a given word, and where no part does a number that is given.
+pub fn said(parts: &[Part<'_>], word: &str, other: u64) -> Result<u64, Fault> {
     match part_of(parts, word) {
         Some(part) => part.number(),
         None => Ok(other),

@@ -1,5 +1,5 @@
 -- What mounted documents beside sources of other machines mean as sources.
-use Rattle.std.specs.Prelude.{◌≡◌, ◌⊎◌, ℕ, ◌<◌, ◌≤◌, ◌+◌, ◌-◌, ◌^◌, Bool, true, List, get_or, refl}
+use Rattle.std.specs.Prelude.{◌≡◌, ◌⊎◌, ℕ, ◌<◌, ◌≤◌, ◌+◌, ◌-◌, ◌*◌, ◌^◌, Bool, true, false, List, get_or, refl}
 use Rattle.std.proofs.Common.{inl, inr, sym, subst, ap, ◌∙◌, arith}
 use Rattle.mix_tree.specs.Forest.{Forest}
 use Rattle.lxp_core.specs.declared.open_tree.HoleId.{HoleId}
@@ -9,6 +9,7 @@ use Rattle.far_keep.specs.declared.far_source.FarSource.{FarSource}
 use Rattle.far_keep.proofs.Views.{fars_after, fars_same}
 use Rattle.mix_mount.specs.Mounts as mount
 use Rattle.mix_mount.specs.Mounts.{Mounting, mounted_in}
+use Rattle.mix_mount.specs.declared.mount.Mount.{Mount}
 use Rattle.mix_reach.specs.declared.reached.Reached.{Reached}
 use Rattle.mix_reach.specs.declared.site.Site.{Site}
 use Rattle.mix_reach.specs.declared.site.Site.TheVariants.{Here, Far}
@@ -59,6 +60,16 @@ abbrev pub forward_at : View → FarsView → ℕ → Site → Bool
 forward_at v fars s Here = v.forward s
 forward_at v fars s (Far far) = fars.told far
 
+-- whether a fill of a source's hole asks a page of a table, by where it is: one of another machine asks none here
+abbrev pub asks_at : Mounting → ℕ → Site → HoleId → Bool
+asks_at m s Here h = mount.asks (mount.mount_at m.docs s) h
+asks_at m s (Far far) h = false
+
+-- how many rows a fill of a source asks of tables at most, by where it is
+abbrev pub rows_of_fill_at : Mounting → ℕ → Site → ℕ
+rows_of_fill_at m s Here = mount.rows_of_fill (mount.mount_at m.docs s)
+rows_of_fill_at m s (Far far) = 0
+
 -- how often a source failed, by where it is
 abbrev pub faults_at : View → FarsView → ℕ → Site → ℕ
 faults_at v fars s Here = v.faults s
@@ -85,32 +96,45 @@ view_of r =
 abbrev pub AreFewPages : Reaching → Reaching → Type 0
 AreFewPages old new = (new.mounted.tables.pages + old.fills ≤ old.mounted.tables.pages + new.fills) ⊎ (2 ^ 64 - 1 ≤ new.fills)
 
+-- between two states no more rows were asked for than as many fills ask for at most, up to the end of the count of fills
+abbrev pub AreFewRows : ℕ → Reaching → Reaching → Type 0
+AreFewRows most old new = (new.mounted.tables.rows + old.fills * most ≤ old.mounted.tables.rows + new.fills * most) ⊎ (2 ^ 64 - 1 ≤ new.fills)
+
 -- from the old state came the new one: what is mounted came from what was, each source is where it was, other machines keep their documents, no count
--- fell, and no more pages were asked than fills
+-- fell, and no more pages were asked than fills, nor more rows than these ask for
 pub record CameFrom (old new : Reaching) : Type 0 where
   pub mounted : mount.CameFrom old.mounted new.mounted
   pub sites : new.sites ≡ old.sites
   pub fars : KeepsFars old.fars new.fars
   pub fills : old.fills ≤ new.fills
   pub pages : AreFewPages old new
+  pub rows : AreFewRows (mount.most_rows old.mounted.docs) old new
 
--- from the old state came another by one fill that isn't counted yet: each source is where it was, and at most one page was asked
+-- from the old state came another by one fill that isn't counted yet: each source is where it was, and at most one page was asked, of
+-- no more rows than a fill asks for
 pub record CameUncounted (old new : Reaching) : Type 0 where
   pub mounted : mount.CameFrom old.mounted new.mounted
   pub sites : new.sites ≡ old.sites
   pub fars : KeepsFars old.fars new.fars
   pub fills : new.fills ≡ old.fills
   pub pages : new.mounted.tables.pages ≤ old.mounted.tables.pages + 1
+  pub rows : new.mounted.tables.rows ≤ old.mounted.tables.rows + mount.most_rows old.mounted.docs
 
 -- a state came from itself
 pub came_same : (a : Reaching) → CameFrom a a
-came_same a = record { mounted = mount.came_same a.mounted; sites = refl; fars = fars_same a.fars; fills = omega arith; pages = inl (omega arith) }
+came_same a = record { mounted = mount.came_same a.mounted; sites = refl; fars = fars_same a.fars; fills = omega arith; pages = inl (omega arith); rows = inl (omega arith) }
 
 -- no more pages than fills to a second state and from there to a third are no more from the first to the third
 pages_after : (a b c : Reaching) → b.fills ≤ c.fills → AreFewPages a b → AreFewPages b c → AreFewPages a c
 pages_after a b c h x (inr y) = inr y
 pages_after a b c h (inr x) (inl y) = inr (omega (arith, h, x))
 pages_after a b c h (inl x) (inl y) = inl (omega (arith, x, y))
+
+-- no more rows than fills ask for to a second state and from there to a third are no more from the first to the third
+rows_after : (most : ℕ) (a b c : Reaching) → b.fills ≤ c.fills → AreFewRows most a b → AreFewRows most b c → AreFewRows most a c
+rows_after most a b c h x (inr y) = inr y
+rows_after most a b c h (inr x) (inl y) = inr (omega (arith, h, x))
+rows_after most a b c h (inl x) (inl y) = inl (omega (arith, x, y))
 
 -- a state that came from one which came from a third came from that third
 pub came_after : (a b c : Reaching) → CameFrom a b → CameFrom b c → CameFrom a c
@@ -120,6 +144,7 @@ came_after a b c x y = record {
   fars = fars_after a.fars b.fars c.fars x.fars y.fars;
   fills = omega (arith, x.fills, y.fills);
   pages = pages_after a b c y.fills x.pages y.pages;
+  rows = rows_after (mount.most_rows a.mounted.docs) a b c y.fills x.rows (subst (λ (docs : List Mount). AreFewRows (mount.most_rows docs) b c) x.mounted.docs y.rows);
 }
 
 -- what is mounted keeps what calls keep, and so do sources of other machines

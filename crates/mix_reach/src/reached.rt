@@ -53,17 +53,22 @@ impl<T, R> Reached<T, R> {
 }
 
 impl<T: Tables, R: Fars> Reached<T, R> {
-    ghost use Rattle.std.specs.Prelude.{◌≡◌, ◌<◌, ◌≤◌, ◌⊎◌, true, false, IfOk, IsErrOf};
+    ghost use Rattle.std.specs.Prelude.{◌≡◌, ◌<◌, ◌+◌, ◌≤◌, ◌⊎◌, true, false, IfOk, IsErrOf};
     ghost use Rattle.mix_base.specs.Counts.{HasRisen};
     ghost use Rattle.lxp_core.specs.Open.{closed, weight_of, AllHoles, IsProgress, begins_with_hole};
     ghost use Rattle.lxp_core.specs.Plain.{plain};
     ghost use Rattle.lxp_core.specs.Small.{IsSmall};
-    ghost use Rattle.mix_reach.specs.Reach.{CameUncounted, reaching_in, view_of};
+    ghost use Rattle.mix_mount.specs.Mounts.{tables_of};
+    ghost use Rattle.mix_reach.specs.Reach.{CameUncounted, asks_at, reaching_in, rows_of_fill_at, site_at, view_of};
 
     // The list that answers a fill of a source's hole. The fill isn't counted yet.
     fn give(&mut self, alloc: Global, s: u32, hole: HoleId) -> Result<Vec<OpenTree>, SourceFault>
         requires { s < (view_of (reaching_in T.view R.view self.old)).count }
         ensures came { CameUncounted (reaching_in T.view R.view self.old) (reaching_in T.view R.view self.new) }
+        ensures untouched { let old = reaching_in T.view R.view self.old in asks_at old.mounted s (site_at old.sites s) hole ≡ false
+            → tables_of self.new.mounted ≡ tables_of self.old.mounted }
+        ensures at_most_chunk { let old = reaching_in T.view R.view self.old in let new = reaching_in T.view R.view self.new in
+            new.mounted.tables.rows ≤ old.mounted.tables.rows + rows_of_fill_at old.mounted s (site_at old.sites s) }
         ensures closes { let old = view_of (reaching_in T.view R.view self.old) in let new = view_of (reaching_in T.view R.view self.new) in
             IfOk result (λ list. old.told s ≡ true → closed (new.forest s) (plain list.items) ≡ old.forest s hole) }
         ensures progress { IfOk result (λ list. IsProgress (plain list.items)) }
@@ -92,7 +97,8 @@ impl<T: Tables, R: Fars> Sources for Reached<T, R> {
     ghost use Rattle.lxp_core.specs.Open.{closed, weight_of, AllHoles, IsProgress, begins_with_hole};
     ghost use Rattle.lxp_core.specs.Plain.{plain};
     ghost use Rattle.lxp_core.specs.Small.{IsSmall};
-    ghost use Rattle.mix_reach.specs.Reach.{reaching_in, view_of, CameFrom, came_same, came_after, came_keeps, reached_root_known};
+    ghost use Rattle.mix_mount.specs.Mounts.{tables_of};
+    ghost use Rattle.mix_reach.specs.Reach.{asks_at, reaching_in, rows_of_fill_at, site_at, view_of, CameFrom, came_same, came_after, came_keeps, reached_root_known};
 
     ghost view = { λ r. view_of (reaching_in T.view R.view r) };
 
@@ -129,6 +135,13 @@ impl<T: Tables, R: Fars> Sources for Reached<T, R> {
             OnOk result (HasRisen old.fills new.fills) }
         ensures counted_failed { let old = view_of (reaching_in T.view R.view self.old) in let new = view_of (reaching_in T.view R.view self.new) in
             IsErrOf result SourceFault.Failed → HasRisen old.fills new.fills }
+        // The pages: a fill of rows of a table asks for one, of no more rows than the table's chunk, and no other fill touches the tables.
+        ensures at_most_one_page { let old = reaching_in T.view R.view self.old in let new = reaching_in T.view R.view self.new in
+            new.mounted.tables.pages ≤ old.mounted.tables.pages + 1 }
+        ensures untouched { let old = reaching_in T.view R.view self.old in asks_at old.mounted s (site_at old.sites s) hole ≡ false
+            → tables_of self.new.mounted ≡ tables_of self.old.mounted }
+        ensures at_most_chunk { let old = reaching_in T.view R.view self.old in let new = reaching_in T.view R.view self.new in
+            new.mounted.tables.rows ≤ old.mounted.tables.rows + rows_of_fill_at old.mounted s (site_at old.sites s) }
         // The causes.
         ensures failed { let old = view_of (reaching_in T.view R.view self.old) in let new = view_of (reaching_in T.view R.view self.new) in
             IsErrOf result SourceFault.Failed → HasRisen (old.faults s) (new.faults s) }

@@ -6,19 +6,18 @@ ghost use Rattle.page_disk.specs.PageDisk.{bytes_in, shown};
 ghost use Rattle.sqlite_disk.specs.Disk.{Cut, CountsFault, Holds, Torn};
 ghost use Rattle.sqlite_disk.specs.Refusal.{finds_no_room};
 
+mod read_only;
+
+use read_only::ReadOnly;
 use sqlite_disk::{Disk, Tally, digest_of};
 use std::alloc::{AllocError, Global};
 use std::fs::File;
 use std::io;
-use std::os::unix::fs::FileExt;
-
-// The furthest byte of a file that the system reads.
-const FURTHEST: usize = (1 << 63) - 1;
 
 // What a disk reads: a file of the system, or a log in memory.
 enum Part {
     // A file of the system, and its length when it was opened.
-    Pages(File, usize),
+    Pages(ReadOnly, usize),
     Log(Vec<u8>),
 }
 
@@ -56,7 +55,7 @@ impl PageDisk {
         ensures { shown result ≡ [] }
     {
         PageDisk {
-            part: Part::Pages(file, length),
+            part: Part::Pages(ReadOnly::new(file), length),
             faults: 0,
             caught: 0,
         }
@@ -74,25 +73,6 @@ impl PageDisk {
     }
 }
 
-// Fills the room from an offset of the file on; a file that ends before is an error.
-fn fill(file: &File, from: usize, room: &mut [u8]) -> io::Result<()> {
-    let mut done = 0;
-    'reads: while done < room.len() {
-        let Some(at) = from.checked_add(done) else {
-            return Err(io::ErrorKind::InvalidInput.into());
-        };
-        if at > FURTHEST {
-            return Err(io::ErrorKind::InvalidInput.into());
-        }
-        let count = file.read_at(&mut room[done..], at as u64)?;
-        if count == 0 {
-            return Err(io::ErrorKind::UnexpectedEof.into());
-        }
-        done += count;
-    }
-    Ok(())
-}
-
 // Copies the bytes from an offset on; where fewer are there than room, that is an error.
 fn copy(bytes: &[u8], from: usize, room: &mut [u8]) -> io::Result<()> {
     if from > bytes.len() || room.len() > bytes.len() - from {
@@ -105,7 +85,7 @@ fn copy(bytes: &[u8], from: usize, room: &mut [u8]) -> io::Result<()> {
 // Fills the room with the bytes from an offset on; where fewer are there, that is an error.
 fn read(part: &Part, from: usize, room: &mut [u8]) -> io::Result<()> {
     match part {
-        Part::Pages(file, _) => fill(file, from, room),
+        Part::Pages(file, _) => file.fill(from, room),
         Part::Log(bytes) => copy(bytes.as_slice(), from, room),
     }
 }

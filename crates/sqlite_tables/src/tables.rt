@@ -18,6 +18,7 @@ pub struct SqliteTables {
     rt: HostRuntime,
     open: Vec<OpenFile>,
     pages: u64,
+    rows: u64,
     faults: u64,
 }
 
@@ -28,6 +29,7 @@ impl Drop for SqliteTables {
             rt: _,
             open: _,
             pages: _,
+            rows: _,
             faults: _,
         } = self;
     }
@@ -42,6 +44,7 @@ impl SqliteTables {
             rt,
             open: Vec::new(alloc),
             pages: 0,
+            rows: 0,
             faults: 0,
         }
     }
@@ -93,11 +96,16 @@ impl Tables for SqliteTables {
     /// key is no whole number, and where the rows aren't a page of what was asked. docs/FORMATS.md has which files are refused.
     fn page(&mut self, alloc: Global, ask: &PageAsk<'_>) -> Result<Vec<TableRow>, PageFault> {
         self.pages = self.pages.saturating_add(1);
+        self.rows = self.rows.saturating_add(u64::from(ask.limit));
         let answer = read(&self.rt, alloc, &mut self.open, ask);
         counted(answer, &mut self.faults)
     }
 
     fn pages(&self) -> u64 {
         self.pages
+    }
+
+    fn rows(&self) -> u64 {
+        self.rows
     }
 }

@@ -30,4 +30,4 @@ next_page m ask = page_at_call m (next_call m) ask
 
 -- what tables in memory mean: they tell their rows, and count faults for all declared tables together
 abbrev pub mem_tables_view : MemTables → TablesView
-mem_tables_view m = record { told = rows_told m.tables.items; pages = m.calls; faults = λ _. m.faults }
+mem_tables_view m = record { told = rows_told m.tables.items; pages = m.calls; rows = m.rows; faults = λ _. m.faults }

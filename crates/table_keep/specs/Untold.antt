@@ -7,7 +7,7 @@ use Rattle.table_keep.specs.Views.{Declared, TablesView}
 
 -- what no tables mean: they tell no rows, and each page that was asked has failed
 abbrev pub no_tables_view : NoTables → TablesView
-no_tables_view n = record { told = λ _. None; pages = n.pages; faults = λ _. n.pages }
+no_tables_view n = record { told = λ _. None; pages = n.pages; rows = n.rows; faults = λ _. n.pages }
 
 -- where there are no tables, no rows are told, so all that are go by rising key
 pub untold_rise : (a : NoTables) (d : Declared) (rows : List Row) → (no_tables_view a).told d ≡ Some rows → keys_rise None rows ≡ true

@@ -16,6 +16,7 @@ pub struct MemTables {
     tables: Vec<MemTable>,
     failing: BTreeSet<u64>,
     calls: u64,
+    rows: u64,
     faults: u64,
     ghost sound: { list_all is_sound tables.items ≡ true },
 }
@@ -44,6 +45,7 @@ impl MemTables {
             tables,
             failing: failing.into_iter().collect(alloc)?,
             calls: 0,
+            rows: 0,
             faults: 0,
         })
     }
@@ -91,7 +93,7 @@ impl MemTables {
 
 impl Tables for MemTables {
     ghost use Rattle.std.specs.Prelude.{◌≡◌, ◌≤◌, ◌+◌, ℕ, List, true, Some, None, IfOk, IfSome, OnOk, IsErrOf};
-    ghost use Rattle.mix_base.specs.Counts.{HasRisen};
+    ghost use Rattle.mix_base.specs.Counts.{HasRisen, HasRisenBy};
     ghost use Rattle.table_keep.specs.Memory.{fails_at, mem_tables_view, next_page};
     ghost use Rattle.table_keep.specs.Page.{IsPage, first_above};
     ghost use Rattle.table_keep.specs.Rows.{rows_of};
@@ -111,6 +113,10 @@ impl Tables for MemTables {
         ensures counted { OnOk result (HasRisen (mem_tables_view self.old).pages (mem_tables_view self.new).pages) }
         ensures counted_failed { IsErrOf result PageFault.Failed
             → HasRisen (mem_tables_view self.old).pages (mem_tables_view self.new).pages }
+        ensures at_most_limit { (mem_tables_view self.new).rows ≤ (mem_tables_view self.old).rows + ask.now.limit }
+        ensures rows { OnOk result (HasRisenBy ask.now.limit (mem_tables_view self.old).rows (mem_tables_view self.new).rows) }
+        ensures rows_failed { IsErrOf result PageFault.Failed
+            → HasRisenBy ask.now.limit (mem_tables_view self.old).rows (mem_tables_view self.new).rows }
         // For which cause a call fails.
         ensures failed { IsErrOf result PageFault.Failed → HasRisen ((mem_tables_view self.old).faults (declared_by ask.now))
             ((mem_tables_view self.new).faults (declared_by ask.now)) }
@@ -122,6 +128,7 @@ impl Tables for MemTables {
         ensures list { (call : ℕ) → fails_at self.new call ≡ fails_at self.old call }
     {
         self.calls = self.calls.saturating_add(1);
+        self.rows = self.rows.saturating_add(u64::from(ask.limit));
         let answer = self.give(alloc, self.calls, ask);
         if let Err(PageFault::Failed) = &answer {
             self.faults = self.faults.saturating_add(1);
@@ -131,6 +138,10 @@ impl Tables for MemTables {
 
     fn pages(&self) -> u64 {
         self.calls
+    }
+
+    fn rows(&self) -> u64 {
+        self.rows
     }
 
     ghost rising = { told_rise };

@@ -6,6 +6,7 @@ use std::alloc::Global;
 #[derive(Debug, Drop)]
 pub struct NoTables {
     pages: u64,
+    rows: u64,
 }
 
 impl NoTables {
@@ -17,7 +18,7 @@ impl NoTables {
     pub fn new() -> NoTables
         ensures { no_tables_view result ≡ unasked (λ _. None) }
     {
-        NoTables { pages: 0 }
+        NoTables { pages: 0, rows: 0 }
     }
 }
 
@@ -26,13 +27,18 @@ impl Tables for NoTables {
 
     ghost view = { no_tables_view };
 
-    fn page(&mut self, _: Global, _: &PageAsk<'_>) -> Result<Vec<TableRow>, PageFault> {
+    fn page(&mut self, _: Global, ask: &PageAsk<'_>) -> Result<Vec<TableRow>, PageFault> {
         self.pages = self.pages.saturating_add(1);
+        self.rows = self.rows.saturating_add(u64::from(ask.limit));
         Err(PageFault::Failed)
     }
 
     fn pages(&self) -> u64 {
         self.pages
+    }
+
+    fn rows(&self) -> u64 {
+        self.rows
     }
 
     ghost rising = { untold_rise };

@@ -1,6 +1,6 @@
 // Tables that are asked page by page.
 ghost use Rattle.std.specs.Prelude.{◌≡◌, ◌≤◌, ◌+◌, List, true, Some, None, IfOk, IfSome, OnOk, IsErrOf};
-ghost use Rattle.mix_base.specs.Counts.{HasRisen};
+ghost use Rattle.mix_base.specs.Counts.{HasRisen, HasRisenBy};
 ghost use Rattle.table_keep.specs.Page.{IsPage, first_above, keys_rise};
 ghost use Rattle.table_keep.specs.Rows.{Row, rows_of};
 ghost use Rattle.table_keep.specs.Views.{Declared, KeepsTables, TablesView, declared_by};
@@ -25,6 +25,9 @@ pub trait Tables {
         ensures at_most_one { (view self.new).pages ≤ (view self.old).pages + 1 }
         ensures counted { OnOk result (HasRisen (view self.old).pages (view self.new).pages) }
         ensures counted_failed { IsErrOf result PageFault.Failed → HasRisen (view self.old).pages (view self.new).pages }
+        ensures at_most_limit { (view self.new).rows ≤ (view self.old).rows + ask.now.limit }
+        ensures rows { OnOk result (HasRisenBy ask.now.limit (view self.old).rows (view self.new).rows) }
+        ensures rows_failed { IsErrOf result PageFault.Failed → HasRisenBy ask.now.limit (view self.old).rows (view self.new).rows }
         // For which cause a call fails.
         ensures failed { IsErrOf result PageFault.Failed
             → HasRisen ((view self.old).faults (declared_by ask.now)) ((view self.new).faults (declared_by ask.now)) };
@@ -32,6 +35,10 @@ pub trait Tables {
     /// How many pages were asked; the count stands still at its end, 2^64 - 1.
     fn pages(&self) -> u64
         ensures { result ≡ (view self.now).pages };
+
+    /// How many rows were asked for, by all pages together; the count stands still at its end, 2^64 - 1.
+    fn rows(&self) -> u64
+        ensures { result ≡ (view self.now).rows };
 
     /// The rows that are told go by rising key.
     ghost rising: { (a : Self) (d : Declared) (rows : List Row) → (view a).told d ≡ Some rows → keys_rise None rows ≡ true };

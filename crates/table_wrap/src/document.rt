@@ -104,6 +104,7 @@ impl TableDoc {
         ensures page { IfOk result (λ rows. IsPageOf after (chunk_of self.now) (columns_of self.now) (plain_rows rows.items)) }
         ensures first { IfOk result (λ rows. AreFirst (T.view t.old) self.now after (plain_rows rows.items)) }
         ensures at_most_one { (T.view t.new).pages ≤ (T.view t.old).pages + 1 }
+        ensures at_most_chunk { (T.view t.new).rows ≤ (T.view t.old).rows + chunk_of self.now }
         ensures counted { OnOk result (HasRisen (T.view t.old).pages (T.view t.new).pages) }
         ensures counted_failed { IsErrOf result SourceFault.Failed → HasRisen (T.view t.old).pages (T.view t.new).pages }
         ensures failed { IsErrOf result SourceFault.Failed
@@ -134,6 +135,7 @@ impl TableDoc {
         ensures keeps { KeepsTables (T.view t.old) (T.view t.new) }
         ensures answer { IfOk result (λ list. IsAnswer (T.view t.old) self.now (Some (Rows after)) (plain list.items)) }
         ensures at_most_one { (T.view t.new).pages ≤ (T.view t.old).pages + 1 }
+        ensures at_most_chunk { (T.view t.new).rows ≤ (T.view t.old).rows + chunk_of self.now }
         ensures counted { OnOk result (HasRisen (T.view t.old).pages (T.view t.new).pages) }
         ensures counted_failed { IsErrOf result SourceFault.Failed → HasRisen (T.view t.old).pages (T.view t.new).pages }
         ensures failed { IsErrOf result SourceFault.Failed
@@ -155,6 +157,7 @@ impl TableDoc {
         ensures answer { IfOk result (λ list. IsAnswer (T.view t.old) self.now (Some part) (plain list.items)) }
         ensures untouched { asks (Some part) ≡ false → t.new ≡ t.old }
         ensures at_most_one { (T.view t.new).pages ≤ (T.view t.old).pages + 1 }
+        ensures at_most_chunk { (T.view t.new).rows ≤ (T.view t.old).rows + chunk_of self.now }
         ensures counted { asks (Some part) ≡ true → OnOk result (HasRisen (T.view t.old).pages (T.view t.new).pages) }
         ensures counted_failed { IsErrOf result SourceFault.Failed → HasRisen (T.view t.old).pages (T.view t.new).pages }
         ensures failed { IsErrOf result SourceFault.Failed
@@ -185,9 +188,10 @@ impl TableDoc {
         ensures lighter { IfOk result (λ list. weight_of (weight self.now) (plain list.items) ≤ weight self.now hole) }
         ensures forward { IfOk result (λ list. begins_with_hole (plain list.items) ≡ false) }
         ensures small { IfOk result (λ list. IsSmall (plain list.items)) }
-        // The pages: a hole of rows asks for one, and no other hole touches the tables.
+        // The pages: a hole of rows asks for one, of no more rows than a page may have, and no other hole touches the tables.
         ensures untouched { asks (part_of hole) ≡ false → t.new ≡ t.old }
         ensures at_most_one { (T.view t.new).pages ≤ (T.view t.old).pages + 1 }
+        ensures at_most_chunk { (T.view t.new).rows ≤ (T.view t.old).rows + chunk_of self.now }
         ensures counted { asks (part_of hole) ≡ true → OnOk result (HasRisen (T.view t.old).pages (T.view t.new).pages) }
         ensures counted_failed { IsErrOf result SourceFault.Failed → HasRisen (T.view t.old).pages (T.view t.new).pages }
         // For which causes a fill fails.
