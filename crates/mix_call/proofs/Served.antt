@@ -55,11 +55,12 @@ sources_read old mid new catalog sources cat keeps only reads =
 pub served_over : (old new : Reaching) (place : Placed) (before after : StoresView) (input input' : InputView) (sink sink' : SinkView) (end : Result Served ServeFault) → placed_of old ≡ place → stores_of old ≡ before
     → old.fills ≡ 0 → old.mounted.fills ≡ 0 → CameFrom old new → stores_of new ≡ after → ServingEnds (view_of old) (view_of new) input input' sink sink' end → AreAnswered place before after input input' sink sink' end
 served_over old new place before after input input' sink sink' end place_is stores_are none own came then ends =
-    let Over : Reaching → Reaching → Type 0 = λ a b. ServingEnds (view_of a) (view_of b) input input' sink sink' end in
+    let Over : Reaching → Reaching → Type 0 = λ a b. CameFrom a b × ServingEnds (view_of a) (view_of b) input input' sink sink' end in
     let place_stays : placed_of new ≡ place = ap (λ (ds : List Mount). record { docs = ds; sites = new.sites }) came.mounted.docs
     ∙ ap (λ (ss : List Site). record { docs = old.mounted.docs; sites = ss }) came.sites ∙ place_is in
     let b : new ≡ reaching place after new.mounted.fills new.fills = ap (λ (p : Placed). reaching p (stores_of new) new.mounted.fills new.fills) place_stays
     ∙ ap (λ (v : StoresView). reaching place v new.mounted.fills new.fills) then in
     let a : old ≡ reaching place before 0 0 = ap (λ (p : Placed). reaching p (stores_of old) old.mounted.fills old.fills) place_is
     ∙ ap (λ (v : StoresView). reaching place v old.mounted.fills old.fills) stores_are ∙ ap (λ (n : ℕ). reaching place before n old.fills) own ∙ ap (λ (n : ℕ). reaching place before 0 n) none in
-    (new.mounted.fills, new.fills, subst (λ (x : Reaching). Over x (reaching place after new.mounted.fills new.fills)) a (subst (λ (x : Reaching). Over old x) b ends))
+    let over = subst (λ (x : Reaching). Over x (reaching place after new.mounted.fills new.fills)) a (subst (λ (x : Reaching). Over old x) b (came, ends)) in
+    (new.mounted.fills, new.fills, over.0, over.1)

@@ -4,7 +4,7 @@ use Rattle.std.specs.Str.{bytes_eq}
 use Rattle.mix_io.specs.Input.{InputView}
 use Rattle.mix_io.specs.Views.{FilesView, SinkView}
 use Rattle.mix_catalog.specs.declared.source.SourceSpec.{SourceSpec}
-use Rattle.mix_reach.specs.Reach.{Reaching, view_of}
+use Rattle.mix_reach.specs.Reach.{CameFrom, Reaching, view_of}
 use Rattle.mix_reach.specs.Stores.{StoresView}
 use Rattle.mix_serve.specs.Ends.{ServingEnds}
 use Rattle.mix_serve.specs.declared.fault.ServeFault.{ServeFault}
@@ -61,10 +61,12 @@ reaching place stores own fills = record {
   fills = fills;
 }
 
--- requests were answered by sources over stores, from no fill on to a number of fills, and that ended
+-- requests were answered by sources over stores, from no fill on to a number of fills, and that ended; no more pages were asked than fills, nor more rows
+-- than these ask for
 abbrev pub AreAnswered : Placed → StoresView → StoresView → InputView → InputView → SinkView → SinkView → Result Served ServeFault → Type 0
 AreAnswered place before after input input' sink sink' end =
-    (own : ℕ) × (fills : ℕ) × ServingEnds (view_of (reaching place before 0 0)) (view_of (reaching place after own fills)) input input' sink sink' end
+    (own : ℕ) × (fills : ℕ) × CameFrom (reaching place before 0 0) (reaching place after own fills)
+    × ServingEnds (view_of (reaching place before 0 0)) (view_of (reaching place after own fills)) input input' sink sink' end
 
 -- the exit status of serving, by how it ended
 abbrev pub serving_status : Result Served ServeFault → ℕ

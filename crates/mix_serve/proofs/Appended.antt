@@ -20,3 +20,8 @@ appends_prefix None now after piece more h k = subst (λ (o : Option (List ℕ))
 appends_prefix (Some w) now after piece more h k =
     let cut : AppendsPrefix (Some (w ++ piece)) after more = subst (λ (o : Option (List ℕ)). AppendsPrefix o after more) h k in
     (length piece + cut.0, cut.1 ∙ ap Some (append_assoc w piece (take cut.0 more) ∙ ap (λ p. w ++ p) (sym (take_append piece more cut.0))))
+
+-- where a prefix of a piece was appended, something was
+pub appends_some : (before after : Option (List ℕ)) (piece : List ℕ) → AppendsPrefix before after piece → (some : List ℕ) × Appends before after some
+appends_some None after piece h = ([], h)
+appends_some (Some w) after piece h = (take h.0 piece, h.1)

@@ -1,9 +1,9 @@
 -- Replies that a source failed are counted by the source.
-use Rattle.std.proofs.Common.{◌≡◌, ◌≤◌, ◌+◌, ◌==◌, ◌&&◌, ℕ, Bool, true, false, cond, List, [], ◌∷◌, refl, ap, sym, subst, arith}
+use Rattle.std.proofs.Common.{◌≡◌, ◌≤◌, ◌+◌, ◌==◌, ◌&&◌, ℕ, Bool, true, false, cond, List, [], ◌∷◌, refl, ap, subst, arith}
 use Rattle.std.proofs.lemmas.Bool.Decides.{nat_tests}
 use Rattle.mix_base.specs.Counts.{HasRisen, HasRisenBy}
 use Rattle.lxp_core.specs.View.{View}
-use Rattle.lxp_wire.specs.Answer.{AnswersFill, AreAnswers, IsAnswer}
+use Rattle.lxp_wire.specs.Answer.{AreAnswers, IsAnswer}
 use Rattle.wire_text.specs.declared.request.Request.{Request}
 use Rattle.wire_text.specs.declared.request.Request.TheVariants.{Count, Root, Fill}
 use Rattle.wire_text.specs.Reply.{Said, count, root, list, failed, unknown_hole, no_memory, no_source}

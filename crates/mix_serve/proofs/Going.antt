@@ -4,6 +4,7 @@ use Rattle.std.specs.Prelude.{is_some}
 use Rattle.std.proofs.lemmas.List.{length-take}
 use Rattle.mix_base.proofs.Lists.{append_nil, take_whole}
 use Rattle.mix_base.specs.Counts.{HasRisen}
+use Rattle.mix_io.specs.Contents.{Appends}
 use Rattle.mix_io.specs.Input.{InputView, Gives, IsAtEnd, Took}
 use Rattle.mix_io.specs.Views.{SinkView}
 use Rattle.mix_io.specs.declared.input.TakeFault.{TakeFault}
@@ -26,14 +27,14 @@ use Rattle.mix_serve.specs.declared.serving.Served.{Served}
 use Rattle.mix_serve.specs.declared.serving.Served.TheVariants.{Whole, Broken, TooLong}
 use Rattle.mix_serve.proofs.Joined.{fills_join, replied_fills, replied_join}
 use Rattle.mix_io.proofs.Taken.{took_more, took_none}
-use Rattle.mix_serve.proofs.Appended.{appends_none, appends_prefix, appends_whole}
+use Rattle.mix_serve.proofs.Appended.{appends_none, appends_prefix, appends_some, appends_whole}
 use Rattle.mix_serve.proofs.Counted.{failures_counted}
 
 -- serving has come so far: these bytes were taken, none of them is a bad tag, and all replies to them were written
 pub record IsServing (old now : View) (input input' : InputView) (sink sink' : SinkView) (stream : Stream) (taken : ℕ) : Type 0 where
   pub bytes : List ℕ
   pub took : Took input input' bytes
-  pub in_time : IsTakenInTime bytes
+  pub in_time : IsTakenInTime old bytes sink sink'
   pub count : taken ≡ length bytes
   pub written : RepliesAreWritten old now bytes stream.begun sink sink'
   pub going : IsPrefixOfRequest stream.begun
@@ -45,18 +46,30 @@ pub record IsServing (old now : View) (input input' : InputView) (sink sink' : S
 no_requests : Splits [] [] []
 no_requests = record { whole = refl; each = tt; partial = inl nothing_more }
 
+-- where nothing was taken, all replies were written: none
+none_written : (v : View) (sink : SinkView) → RepliesAreWritten v v [] [] sink sink
+none_written v sink = record {
+  replies = [];
+  replied = record { requests = []; said = []; cut = no_requests; answers = refl; written = refl; counted = failures_counted v v [] [] refl };
+  written = appends_none sink.written;
+}
+
 -- serving begins with nothing taken
 pub serving_start : (v : View) (input : InputView) (sink : SinkView) → IsServing v v input input sink sink fresh 0
 serving_start v input sink = record {
   bytes = [];
   took = took_none input;
-  in_time = record { earlier = []; last = []; parts = refl; few = omega arith; good = ([], [], no_requests, nothing_more); short = omega arith };
-  count = refl;
-  written = record {
-    replies = [];
-    replied = record { requests = []; said = []; cut = no_requests; answers = refl; written = refl; counted = failures_counted v v [] [] refl };
-    written = appends_none sink.written;
+  in_time = record {
+    earlier = [];
+    last = [];
+    parts = refl;
+    few = omega arith;
+    good = ([], [], no_requests, nothing_more);
+    answered = record { mid = v; rest = []; between = sink; replies = none_written v sink; more = []; later = appends_none sink.written };
+    short = omega arith;
   };
+  count = refl;
+  written = none_written v sink;
   going = nothing_more;
   good = refl;
   inputs = omega arith;
@@ -138,14 +151,15 @@ module _ {old now : View} {input mid : InputView} {sink between : SinkView} {str
   }
 
   module _ (new : View) {after : InputView} {piece : List ℕ} (stream' : Stream) (sink' : SinkView) {count : ℕ} (is : IsPiece mid after count piece) (few : taken ≤ most_taken) where
-    -- what was taken with the piece was taken in time
-    in_time_more : IsTakenInTime (far.bytes ++ piece)
-    in_time_more = record {
+    -- what was taken with the piece was taken in time, whatever was written of the replies to the piece
+    in_time_more : (some : List ℕ) → Appends between.written sink'.written some → IsTakenInTime old (far.bytes ++ piece) sink sink'
+    in_time_more some appended = record {
       earlier = far.bytes;
       last = piece;
       parts = refl;
       few = omega (arith, far.count, few);
       good = (far.written.replied.requests, stream.begun, far.written.replied.cut, far.going);
+      answered = record { mid = now; rest = stream.begun; between = between; replies = far.written; more = some; later = appended };
       short = is.short;
     }
 
@@ -210,7 +224,7 @@ module _ {old now : View} {input mid : InputView} {sink between : SinkView} {str
         record {
           bytes = far.bytes ++ piece;
           took = took_piece;
-          in_time = in_time_more;
+          in_time = in_time_more ends.0.replies ends.0.written;
           count = omega (arith, far.count, is.counted, length-append far.bytes piece);
           written = subst (λ begun. RepliesAreWritten old new (far.bytes ++ piece) begun sink sink') (sym more.1) (written_more all.rest ends.0 all.replied);
           going = subst IsPrefixOfRequest (sym more.1) more.0;
@@ -226,11 +240,12 @@ module _ {old now : View} {input mid : InputView} {sink between : SinkView} {str
 
     module _ (asked : (requests : List Request) (rest : List ℕ) → Splits (stream.begun ++ piece) requests rest → new.fills ≤ now.fills + fills_in requests) where
       -- where a piece was taken last, serving ends so that has taken it
-      ends_piece : (end : Result Served ServeFault) → ServingEndsSo old new (far.bytes ++ piece) input after sink sink' end → ServingEnds old new input after sink sink' end
-      ends_piece end ends = record {
+      ends_piece : (some : List ℕ) → Appends between.written sink'.written some → (end : Result Served ServeFault) → ServingEndsSo old new (far.bytes ++ piece) input after sink sink' end
+          → ServingEnds old new input after sink sink' end
+      ends_piece some appended end ends = record {
         bytes = far.bytes ++ piece;
         took = took_piece;
-        taken = in_time_more;
+        taken = in_time_more some appended;
         fills = fills_join old now new far.bytes stream.begun piece far.written.replies far.written.replied asked;
         ends = ends;
       }
@@ -239,7 +254,7 @@ module _ {old now : View} {input mid : InputView} {sink between : SinkView} {str
       pub ends_bad : PieceEnds now new stream piece stream' between sink' (Ok true) → ServingEnds old new input after sink sink' (Ok Broken)
       ends_bad ends =
           let all = joined ends.0.replies ends.0.fed in
-          ends_piece (Ok Broken) (all.rest, written_more all.rest ends.0 all.replied, inl (stops all.partial all.kept (sym ends.1)))
+          ends_piece ends.0.replies ends.0.written (Ok Broken) (all.rest, written_more all.rest ends.0 all.replied, inl (stops all.partial all.kept (sym ends.1)))
         where
           stops : {requests : List Request} {rest : List ℕ} → IsPrefixOfRequest rest ⊎ IsBadTag rest → IsAfter stream.at requests rest stream' → is_some stream'.bad ≡ true → IsBadTag rest
           stops (inl p) kept some = absurd (let k = (kept.goes_on p).1 in cc)
@@ -251,9 +266,10 @@ module _ {old now : View} {input mid : InputView} {sink between : SinkView} {str
       ends_cut SinkFailed ends keeps =
           let risen = ends.0 in
           let begun = begun_more ends.1 in
-          ends_piece (Err SinkFailed) (omega (arith, risen, far.sinks), begun.0, begun.1)
+          let some = appends_some between.written sink'.written ends.1.replies ends.1.written in
+          ends_piece some.0 some.1 (Err SinkFailed) (omega (arith, risen, far.sinks), begun.0, begun.1)
       ends_cut OutOfMemory (inl same) keeps =
-          ends_piece (Err OutOfMemory)
+          ends_piece [] (subst (λ (k : SinkView). Appends between.written k.written []) (sym same) (appends_none between.written)) (Err OutOfMemory)
           record {
             done = far.bytes;
             later = piece;
@@ -265,7 +281,8 @@ module _ {old now : View} {input mid : InputView} {sink between : SinkView} {str
           }
       ends_cut OutOfMemory (inr b) keeps =
           let begun = begun_more b in
-          ends_piece (Err OutOfMemory)
+          let some = appends_some between.written sink'.written b.replies b.written in
+          ends_piece some.0 some.1 (Err OutOfMemory)
           record { done = far.bytes ++ piece; later = []; parts = sym (append_nil (far.bytes ++ piece)); rest = begun.0; between = new; begun = begun.1; keeps = keeps_same new }
 
 -- where memory ran out before anything was taken, serving ends

@@ -1,6 +1,7 @@
 -- How serving a stream of requests ends.
 use Rattle.std.specs.Prelude.{◌≡◌, ◌⊎◌, ℕ, ◌+◌, ◌<◌, ◌≤◌, List, [], ◌++◌, length, Result, Ok, Err}
 use Rattle.mix_base.specs.Counts.{HasRisen}
+use Rattle.mix_io.specs.Contents.{Appends}
 use Rattle.mix_io.specs.Input.{InputView, IsAtEnd, Took}
 use Rattle.mix_io.specs.Views.{SinkView}
 use Rattle.lxp_core.specs.View.{View, Keeps}
@@ -18,13 +19,23 @@ use Rattle.mix_serve.specs.declared.serving.Served.TheVariants.{Whole, Broken, T
 abbrev pub most_taken : ℕ
 most_taken = 1073741824
 
--- at most so many bytes were taken when more was taken last, without a bad tag among them; then at most 4,096 more
-pub record IsTakenInTime (bytes : List ℕ) : Type 0 where
+-- all replies to bytes were written, and maybe more after them
+pub record AreWrittenFirst (old : View) (bytes : List ℕ) (sink sink' : SinkView) : Type 0 where
+  pub mid : View
+  pub rest : List ℕ
+  pub between : SinkView
+  pub replies : RepliesAreWritten old mid bytes rest sink between
+  pub more : List ℕ
+  pub later : Appends between.written sink'.written more
+
+-- when more was taken last, at most so many bytes had been taken, without a bad tag among them, and all replies to them were written; then at most 4,096 more
+pub record IsTakenInTime (old : View) (bytes : List ℕ) (sink sink' : SinkView) : Type 0 where
   pub earlier : List ℕ
   pub last : List ℕ
   pub parts : bytes ≡ earlier ++ last
   pub few : length earlier ≤ most_taken
   pub good : HasNoBadTag earlier
+  pub answered : AreWrittenFirst old earlier sink sink'
   pub short : length last ≤ 4096
 
 -- the bytes that were taken of an input are few enough, and the input is at its end
@@ -67,6 +78,6 @@ ServingEndsSo old new bytes input input' sink sink' (Err OutOfMemory) = IsOutOfM
 pub record ServingEnds (old new : View) (input input' : InputView) (sink sink' : SinkView) (end : Result Served ServeFault) : Type 0 where
   pub bytes : List ℕ
   pub took : Took input input' bytes
-  pub taken : IsTakenInTime bytes
+  pub taken : IsTakenInTime old bytes sink sink'
   pub fills : (requests : List Request) (rest : List ℕ) → Splits bytes requests rest → new.fills ≤ old.fills + fills_in requests
   pub ends : ServingEndsSo old new bytes input input' sink sink' end
