@@ -8,6 +8,7 @@ pub mod Keep
 pub mod Kept
 pub mod Laws
 pub mod Making
+pub mod Matter
 pub mod Numbering
 pub mod Passing
 pub mod PieceTurns
