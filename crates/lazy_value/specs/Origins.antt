@@ -1,6 +1,8 @@
 -- Where the value of a variable is made.
 use Rattle.std.specs.Prelude.{Bool, false, ◌==◌, IsTrue, ◌≡◌, ◌⊎◌, ℕ, suc, ◌<◌, ◌≤◌, Some, Option, MatchOption}
 use Rattle.mix_tree.specs.Keys.{has_var}
+use Rattle.plan_core.specs.declared.plan.Piece.{Piece}
+use Rattle.plan_core.specs.declared.plan.Piece.TheVariants.{Var as var_piece, LabelOf as label_piece, Text as text_piece}
 use Rattle.plan_core.specs.declared.plan.Plan.{Plan}
 use Rattle.plan_core.specs.PlanMade.{plan_value}
 use Rattle.plan_core.specs.Plans.{Operator, over}
@@ -134,10 +136,23 @@ IsTreeOf st n c v (Built op at) = IsOriginOf st n c v (Element op at)
 IsTreeOf st n c v (Leaf s p) = ⊥
 IsTreeOf st n c v (Text op index) = ⊥
 
+-- a node is the tree of a piece over the binding of operator n's cursor c: that of its variable, a leaf with the label of its variable's node, or a text
+abbrev pub IsTreeOfPiece : BenchState → ℕ → Position → Piece → Head → Type 0
+IsTreeOfPiece st n c (var_piece v) h = IsTreeOf st n c v h
+IsTreeOfPiece st n c (label_piece v) (Whole s p) = ⊥
+IsTreeOfPiece st n c (label_piece v) (Built op at) = ⊥
+IsTreeOfPiece st n c (label_piece v) (Leaf s p) = IsOriginOf st n c v (Node s p)
+IsTreeOfPiece st n c (label_piece v) (Text op index) = ⊥
+IsTreeOfPiece st n c (text_piece label) (Whole s p) = ⊥
+IsTreeOfPiece st n c (text_piece label) (Built op at) = ⊥
+IsTreeOfPiece st n c (text_piece label) (Leaf s p) = ⊥
+IsTreeOfPiece st n c (text_piece label) (Text op index) = Unit {0}
+
 -- a node with the trees below it is the only tree of a piece of operator op over the binding of cursor c
 pub record IsHeadOf (st : BenchState) (op index : ℕ) (c : Position) (h : Head) : Type 0 where
   pub head : IsHead st h
   pub rank : head_rank h ≤ op
+  pub of_piece : IsTreeOfPiece st (input_at (ops_of st) op) c (piece_at (ops_of st) op index) h
   pub trees : (rest : Tolled)
       → piece_items (documents st) (piece_at (ops_of st) op index) (binding_at st (input_at (ops_of st) op) c) rest ≡ item 0 (head_label st h) (head_trees st h) rest
 
