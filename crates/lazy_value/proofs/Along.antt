@@ -112,7 +112,7 @@ module _ (a b : BenchState) (k : KeepsBench a b) where
       }
 
   -- a cursor further down that has all values is so after a call
-  below-kept : (n : ℕ) (c : Position) → IsCursor a n c → (m : ℕ) (d : Position) → IsBelow a n c m d → IsBelow b n c m d
+  pub below-kept : (n : ℕ) (c : Position) → IsCursor a n c → (m : ℕ) (d : Position) → IsBelow a n c m d → IsBelow b n c m d
   below-kept n c h m d i = record {
     within = i.within;
     cursor = (k.cursors m d i.cursor).cursor;

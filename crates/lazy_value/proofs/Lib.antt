@@ -1,3 +1,4 @@
+pub mod DownIn
 pub mod Downs
 pub mod Entered
 pub mod Enters
@@ -19,5 +20,6 @@ pub mod PiecesIn
 pub mod Placing
 pub mod Reaching
 pub mod RowLabels
+pub mod StandingKept
 pub mod Turns
 pub mod Along

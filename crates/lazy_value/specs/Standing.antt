@@ -1,5 +1,5 @@
 -- Where an identifier stands in the list of the element above it: what is left of that list after it.
-use Rattle.std.specs.Prelude.{◌≡◌, ◌<◌, ℕ, suc, IsTrue, Some, None, List, [], ◌++◌, length, slice_get}
+use Rattle.std.specs.Prelude.{◌≡◌, ◌<◌, ℕ, suc, IsTrue, MatchOption, Option, Some, None, List, [], ◌∷◌, ◌++◌, length, slice_get}
 use Rattle.std.specs.List.{AllByRecursion}
 use Rattle.mix_base.specs.Events.{without_skips}
 use Rattle.mix_tree.specs.Nodes.{Documents}
@@ -21,7 +21,9 @@ use Rattle.lazy_value.specs.Ids.{Stands, ahead_from}
 use Rattle.lazy_value.specs.Origins.{IsOriginOf, IsTreeOfPiece}
 use Rattle.lazy_value.specs.Ways.{IsBelow}
 use Rattle.lazy_value.specs.declared.ids.Head.{Head}
+use Rattle.lazy_value.specs.declared.ids.Head.TheVariants.{Whole, Built, Leaf, Text}
 use Rattle.lazy_value.specs.declared.ids.Origin.{Origin}
+use Rattle.lazy_value.specs.declared.ids.MembersFrom.{MembersFrom}
 use Rattle.lazy_value.specs.declared.ids.PiecesFrom.{PiecesFrom}
 use Rattle.lazy_value.specs.declared.ids.Rest.{Rest, End, Pieces', Members', Group'}
 use Rattle.lazy_value.specs.declared.ids.Site.{Site}
@@ -133,8 +135,8 @@ abbrev pub GroupStandsIn : BenchState → GroupFrom → Rest → Site → Type 0
 GroupStandsIn st g up site =
     Stands st g.op gathers_groups g.at.now → (n : ℕ) (c : Position) (list : Listing) → AreBelow st n c up
     → (IsTrue (told st) → let input = input_at (ops_of st) g.op in let piece = piece_of (ops_of st) g.op in
-    StandsAt (documents st) (ops_of st) (binding_at st n c) list (members_left input (keys_of (op_at (ops_of st) g.op)) piece (group_ahead st g.op g.first.now g.at.now) (remains st up))
-    (binding_at st input g.at.now) piece)
+    let keys = keys_of (op_at (ops_of st) g.op) in let ahead = group_ahead st g.op g.first.now g.at.now in
+    StandsAt (documents st) (ops_of st) (binding_at st n c) list (members_left input keys piece ahead (remains st up)) (binding_at st input g.at.now) piece)
     → SiteStandsIn st n c list site
 
 -- an identifier at a member of a list of all bindings stands in each list in which the member does, before the others and the rest after them
@@ -142,7 +144,8 @@ abbrev pub MemberStandsIn : BenchState → ℕ → Position → Rest → Site �
 MemberStandsIn st op at up site =
     Stands st op gathers_all at → (n : ℕ) (c : Position) (list : Listing) → AreBelow st n c up
     → (IsTrue (told st) → let input = input_at (ops_of st) op in let piece = piece_of (ops_of st) op in
-    StandsAt (documents st) (ops_of st) (binding_at st n c) list (members_left input [] piece (ahead_at st input at) (remains st up)) (binding_at st input at) piece)
+    let left = members_left input [] piece (ahead_at st input at) (remains st up) in
+    StandsAt (documents st) (ops_of st) (binding_at st n c) list left (binding_at st input at) piece)
     → SiteStandsIn st n c list site
 
 -- a turn over the pieces of a concatenation is of each list of which they are left
@@ -150,3 +153,39 @@ abbrev pub PiecesTurnIn : BenchState → PiecesFrom → Ways → Rest → Turn �
 PiecesTurnIn st p ways up t =
     (n : ℕ) (c : Position) (list : Listing) (q : Rc (Unit {0}) Global) → IsHolder st n c → IsLeftIn st n c list (Pieces' p.op p.at.now p.next ways q up)
     → TurnIsIn st n c list t
+
+-- from one state to another, a turn over a rest is of each list of which the rest is left
+abbrev pub RestTurnsIn : BenchState → BenchState → Rest → Turn → Type 0
+RestTurnsIn old new r t = (n : ℕ) (c : Position) (list : Listing) → IsHolder old n c → IsLeftIn old n c list r → TurnIsIn new n c list t
+
+-- a turn over the members of a list of all bindings is of each list of which they are left
+abbrev pub MembersTurnIn : BenchState → BenchState → MembersFrom → Rest → Turn → Type 0
+MembersTurnIn old new l up t = (q : Rc (Unit {0}) Global) → RestTurnsIn old new (Members' l.op l.at.now q up) t
+
+-- a turn over the members of a group is of each list of which they are left
+abbrev pub GroupTurnsIn : BenchState → BenchState → GroupFrom → Rest → Turn → Type 0
+GroupTurnsIn old new g up t = (q : Rc (Unit {0}) Global) → RestTurnsIn old new (Group' g.op g.first.now g.number g.at.now g.place q up) t
+
+-- from one state to another, a rest is left of each list of which another is left
+abbrev pub StaysLeft : BenchState → BenchState → Rest → Rest → Type 0
+StaysLeft old new r s =
+    (n : ℕ) (c : Position) (list : Listing) → IsHolder old n c → IsLeftIn old n c list r → IsHolder new n c × IsLeftIn new n c list s
+
+-- from one state to another, the identifier that is reached, if one is, stands in each list of which a rest is left
+abbrev pub ReachesIn : BenchState → BenchState → Rest → Option Site → Type 0
+ReachesIn old new r x =
+    MatchOption x (Unit {0}) (λ site. (n : ℕ) (c : Position) (list : Listing) → IsHolder old n c → IsLeftIn old n c list r → SiteStandsIn new n c list site)
+
+-- from one state to another, the first child of an element that operator op makes over a cursor, if it has one, stands in the element's list, over each binding
+-- that has all that the element is made of
+abbrev pub ChildStandsIn : BenchState → BenchState → ℕ → Position → Option Site → Type 0
+ChildStandsIn old new op at x =
+    MatchOption x (Unit {0}) (λ site. (n : ℕ) (c : Position) (u : ℕ) (list : Listing) → IsHolder old n c → IsBelow old n c (input_at (ops_of old) op) at
+    → pieces_of (op_at (ops_of old) op) ≡ var_piece u ∷ [] → list_of (ops_of old) u ≡ Some list → SiteStandsIn new n c list site)
+
+-- from one state to another, the first child of a node that is an element stands in the element's list
+abbrev pub HeadChildIn : BenchState → BenchState → Head → Option Site → Type 0
+HeadChildIn old new (Whole s p) x = Unit {0}
+HeadChildIn old new (Built op at) x = ChildStandsIn old new op at x
+HeadChildIn old new (Leaf s p) x = Unit {0}
+HeadChildIn old new (Text op index) x = Unit {0}
