@@ -44,18 +44,30 @@ pub held_below : (st : BenchState) (n i v m : ℕ) (c d e : Position) → IsPass
 held_below st n i v m c d e p u h = held_twice st n v i m c d e (held_under st n i v c d p u) h
 
 -- a way goes on to a cursor of an input from which its lowest cursor has all values
-below_on : (st : BenchState) (n m i : ℕ) (c d e : Position) → IsBelow st n c m d → i < m → PassesAll st.plan m i → IsUnder st m d i e → IsBelow st n c i e
+pub below_on : (st : BenchState) (n m i : ℕ) (c d e : Position) → IsBelow st n c m d → i < m → PassesAll st.plan m i → IsUnder st m d i e → IsBelow st n c i e
 below_on st n m i c d e b l all u = record {
   within = (let x = b.within in omega (arith, x, l));
   cursor = u.cursor;
   held = λ v k h. (let p = all v k h in held_twice st n v m i c d e (b.held v k (p.kind ∙ h)) (held_under st m i v d e p u));
 }
 
+-- a cursor has all values from itself
+pub below_here : (st : BenchState) (n : ℕ) (c : Position) → IsCursor st n c → IsBelow st n c n c
+below_here st n c h = record { within = omega arith; cursor = h; held = λ v k e. held_here st n v c c refl h }
+
+-- what is below a cursor that is below another is below that one
+pub below_twice : (st : BenchState) (n m i : ℕ) (c d e : Position) → IsBelow st n c m d → IsBelow st m d i e → IsBelow st n c i e
+below_twice st n m i c d e b a = record {
+  within = (let x = b.within in let y = a.within in omega (arith, x, y));
+  cursor = a.cursor;
+  held = λ v k h. (let x = a.held v k h in held_twice st n v m i c d e (b.held v k (x.kind ∙ h)) x);
+}
+
 -- the lowest cursor of a way is below the uppermost
 pub foot_below : (st : BenchState) (n : ℕ) (c : Position) → IsCursor st n c → (w : Way) → IsWay st n c w → IsBelow st n c (foot_op w) (foot_at w)
 foot_below st n c h (Top op at) i =
     subst (λ (m : ℕ). IsBelow st n c m at) (sym i.0)
-    (subst (λ (d : Position). IsBelow st n c n d) (sym i.1) (record { within = omega arith; cursor = h; held = λ v k e. held_here st n v c c refl h }))
+    (subst (λ (d : Position). IsBelow st n c n d) (sym i.1) (below_here st n c h))
 foot_below st n c h (Below' op at q above) i = i.0
 
 -- what holds of the lowest cursor of a way holds of it by another name
@@ -100,7 +112,7 @@ module _ (a b : BenchState) (k : KeepsBench a b) where
       }
 
   -- a cursor further down that has all values is so after a call
-  below-kept : (n : ℕ) (c : Position) → IsCursor a n c → (m : ℕ) (d : Position) → IsBelow a n c m d → IsBelow b n c m d
+  pub below-kept : (n : ℕ) (c : Position) → IsCursor a n c → (m : ℕ) (d : Position) → IsBelow a n c m d → IsBelow b n c m d
   below-kept n c h m d i = record {
     within = i.within;
     cursor = (k.cursors m d i.cursor).cursor;

@@ -77,7 +77,7 @@ module _ {S : Type 0} {view : S → View} {came_from : S → S → Type 0} (s t 
 
     module _ (g : GathersAll (state_of (view s) b) op) (p : Position)
         (f : IsFirstOf (state_of (view s) b) (state_of (view t) d) input (ahead_from (state_of (view s) b) input at) (number_from (state_of (view s) b) input at) p) where
-      first_there : IsFirstOf (state_of (view s) b) (state_of (view t) d) (input_at (ops_of (state_of (view t) d)) op)
+      pub first_there : IsFirstOf (state_of (view s) b) (state_of (view t) d) (input_at (ops_of (state_of (view t) d)) op)
           (ahead_from (state_of (view s) b) (input_at (ops_of (state_of (view s) b)) op) at) (number_from (state_of (view s) b) (input_at (ops_of (state_of (view s) b)) op) at) p
       first_there =
           subst (λ (n : ℕ). IsFirstOf (state_of (view s) b) (state_of (view t) d) n (ahead_from (state_of (view s) b) (input_at (ops_of (state_of (view s) b)) op) at) (number_from (state_of (view s) b) (input_at (ops_of (state_of (view s) b)) op) at) p)

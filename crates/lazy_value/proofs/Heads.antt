@@ -1,5 +1,5 @@
 -- The trees of pieces that are no lists.
-use Rattle.std.proofs.Common.{◌≡◌, ◌<◌, ℕ, ◌∙◌, sym, ap, arith}
+use Rattle.std.proofs.Common.{◌≡◌, ◌<◌, ℕ, ◌∙◌, sym, ap, subst, arith}
 use Rattle.std.specs.Prelude.{Result, Ok, Err, IfOk}
 use Rattle.mix_tree.specs.Nodes.{Node, label_at}
 use Rattle.tree_buffer.specs.declared.spot.Spot.{Spot}
@@ -10,7 +10,7 @@ use Rattle.plan_core.specs.TolledRows.{TolledValue, source_node, value_trees, pi
 use Rattle.lazy_plan.specs.Bench.{BenchState, ops_of, documents, binding_at}
 use Rattle.lazy_binding.specs.declared.position.Position.{Position}
 use Rattle.plan_forms.specs.Forms.{input_at, piece_at}
-use Rattle.lazy_value.specs.Origins.{IsOriginOf, IsTreeOf, IsHeadOf}
+use Rattle.lazy_value.specs.Origins.{IsOriginOf, IsTreeOf, IsTreeOfPiece, IsHeadOf}
 use Rattle.lazy_value.specs.declared.ids.Head.{Head}
 use Rattle.lazy_value.specs.declared.ids.Head.TheVariants.{Whole, Built, Leaf, Text}
 use Rattle.lazy_value.specs.declared.ids.Origin.TheVariants.{Node as node_origin, Element as element_origin}
@@ -27,11 +27,16 @@ module _ (st : BenchState) (op index input : ℕ) (c : Position) (p : Piece) (v 
       ap (λ (k : ℕ). piece_items (documents st) (piece_at (ops_of st) op index) (binding_at st k c) rest) (sym i)
       ∙ ap (λ (k : Piece). piece_items (documents st) k (binding_at st input c) rest) (sym e ∙ z)
 
+  -- what is the tree of a piece is that of the operator's piece
+  of_piece : (q : Piece) → p ≡ q → (h : Head) → IsTreeOfPiece st input c q h → IsTreeOfPiece st (input_at (ops_of st) op) c (piece_at (ops_of st) op index) h
+  of_piece q z h t = subst (λ (k : ℕ). IsTreeOfPiece st k c (piece_at (ops_of st) op index) h) i (subst (λ (k : Piece). IsTreeOfPiece st input c k h) (sym z ∙ e) t)
+
   -- a leaf with the label of a node
   pub leaf_head : (s : ℕ) (x : Spot) → p ≡ label_piece v → IsOriginOf st input c v (node_origin s x) → IsHeadOf st op index c (Leaf s x)
   leaf_head s x z o = record {
     head = o.origin;
     rank = omega arith;
+    of_piece = of_piece (label_piece v) z (Leaf s x) o;
     trees = λ rest. items_are (label_piece v) z rest ∙ ap (λ (n : Node). item 0 (label_at (documents st) n) (ends 0) rest) (ap source_node o.value);
   }
 
@@ -40,6 +45,7 @@ module _ (st : BenchState) (op index input : ℕ) (c : Position) (p : Piece) (v 
   node_head s x z o = record {
     head = o.origin;
     rank = omega arith;
+    of_piece = of_piece (var_piece v) z (Whole s x) o;
     trees = λ rest. items_are (var_piece v) z rest ∙ ap (λ (t : TolledValue). value_trees (documents st) t rest) o.value;
   }
 
@@ -48,6 +54,7 @@ module _ (st : BenchState) (op index input : ℕ) (c : Position) (p : Piece) (v 
   element_head maker at z o l = record {
     head = o.origin;
     rank = (let r = o.rank in omega (arith, r, l));
+    of_piece = of_piece (var_piece v) z (Built maker at) o;
     trees = λ rest. items_are (var_piece v) z rest ∙ ap (λ (t : TolledValue). value_trees (documents st) t rest) o.value;
   }
 

@@ -1,5 +1,5 @@
 -- Mediators that no call takes.
-use Rattle.std.proofs.Common.{ℕ, refl, arith}
+use Rattle.std.proofs.Common.{refl, arith}
 use Rattle.lxp_core.specs.View.{View, Keeps}
 use Rattle.tree_buffer.specs.Law.{KeepsBuffers}
 use Rattle.lazy_binding.specs.Keeping.{Keeps as KeepsWorld}

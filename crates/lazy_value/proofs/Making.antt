@@ -28,10 +28,11 @@ use Rattle.lazy_plan.proofs.Benches.{all_groups}
 use Rattle.plan_forms.specs.Forms.{Form, form, input_of, pieces_of, keys_of, label_in, input_at, makes_list, makes_element, gathers_groups}
 use Rattle.lazy_value.specs.Sizes.{pieces_count, size, extent, op_extent}
 use Rattle.lazy_value.specs.Ids.{Stands}
-use Rattle.lazy_value.specs.Origins.{IsOriginOf, IsMadeHere, makes}
-use Rattle.lazy_value.specs.Ways.{IsHeldAt}
+use Rattle.lazy_value.specs.Origins.{HasGroup, HasMatterOf, IsOriginOf, IsMadeHere, makes}
+use Rattle.lazy_value.specs.Ways.{IsBelow, IsHeldAt}
 use Rattle.lazy_value.specs.declared.ids.Origin.{Origin}
 use Rattle.lazy_value.specs.declared.ids.Origin.TheVariants.{Node, Element, Joined, All, Group as Same}
+use Rattle.lazy_value.proofs.Along.{below_twice}
 use Rattle.lazy_value.proofs.Numbering as numbering
 
 -- a choice whose test holds is its first part
@@ -125,7 +126,13 @@ module _ (st : BenchState) (typed : IsTyped (ops_of st)) (n : ℕ) (within : n <
     size = omega arith;
     extent = node_extent (ops_of st) typed (size_of st) n v within k;
     rank = omega arith;
+    maker = tt;
+    matter = tt;
   }
+
+  -- an operator that makes a variable's value makes it also as the one at its number
+  makes_here : {o : Operator} → o ≡ op_at (ops_of st) n → makes o v ≡ true → makes (op_at (ops_of st) n) v ≡ true
+  makes_here e t = subst (λ (p : Operator). makes p v ≡ true) e t
 
   -- a groupBy without keys makes the list of all bindings of its input
   pub all_made : (i : ℕ) (keys : List Key) (piece : Piece) (out : ℕ) → over i (group_by keys piece out) ≡ op_at (ops_of st) n → keys ≡ [] → (out == v) ≡ true → IsCursor st n c
@@ -144,6 +151,8 @@ module _ (st : BenchState) (typed : IsTyped (ops_of st)) (n : ℕ) (within : n <
         size = omega (arith, s);
         extent = (let y : size_of st (input_at (ops_of st) n) ≡ size_of st i = ap (λ (p : Operator). size_of st (input_of p)) (sym f) in omega (arith, x, y));
         rank = omega arith;
+        maker = makes_here f t;
+        matter = tt;
       }
 
   -- an operator of a form with a cursor of its input stands over that cursor
@@ -151,19 +160,19 @@ module _ (st : BenchState) (typed : IsTyped (ops_of st)) (n : ℕ) (within : n <
   stands_over o f d e h k = record { within = within; is = ap form (sym e) ∙ h; cursor = subst (λ (p : Operator). IsCursor st (input_of p) d) e k }
 
   -- the binding of a cursor is made of that of the cursor under it, as the operator does
-  made_by : (o : Operator) (d : Position) → o ≡ op_at (ops_of st) n → IsUnder st n c (input_of o) d → IsMadeOf st (binding_at st n c) (input_of o) (binding_at st (input_of o) d) (ahead_at st (input_of o) d) o
+  pub made_by : (o : Operator) (d : Position) → o ≡ op_at (ops_of st) n → IsUnder st n c (input_of o) d → IsMadeOf st (binding_at st n c) (input_of o) (binding_at st (input_of o) d) (ahead_at st (input_of o) d) o
   made_by o d e u = subst (λ (p : Operator). IsMadeOf st (binding_at st n c) (input_of o) (binding_at st (input_of o) d) (ahead_at st (input_of o) d) p) (sym e) u.made
 
   -- the binding of a group by keys is made of the first binding of the input with these keys
-  by_keys : (row below : TolledRow) (es : RowEvents) (i : ℕ) (keys : List Key) (piece : Piece) (out : ℕ) → (keys ≡ [] → ⊥) → IsMadeOf st row i below es (over i (group_by keys piece out))
+  pub by_keys : (row below : TolledRow) (es : RowEvents) (i : ℕ) (keys : List Key) (piece : Piece) (out : ℕ) → (keys ≡ [] → ⊥) → IsMadeOf st row i below es (over i (group_by keys piece out))
       → row ≡ group_row (documents st) keys (stops_over (ops_of st) i keys) piece out below es
   by_keys row below es i [] piece out some h = absurd (some refl)
   by_keys row below es i (k ∷ keys) piece out some h = h
 
   -- a groupBy by keys makes a group of the bindings of its input
   pub group_made : (i : ℕ) (keys : List Key) (piece : Piece) (out : ℕ) (d : Position) (number : ℕ) → over i (group_by keys piece out) ≡ op_at (ops_of st) n → (keys ≡ [] → ⊥) → (out == v) ≡ true
-      → IsUnder st n c (input_at (ops_of st) n) d → IsGroup st n number d d 0 → IsOriginOf st n c v (Same n d number)
-  group_made i keys piece out d number e some t under group =
+      → IsUnder st n c (input_at (ops_of st) n) d → IsGroup st n number d d 0 → HasGroup st n c n d → IsOriginOf st n c v (Same n d number)
+  group_made i keys piece out d number e some t under group own =
       let o : Operator = over i (group_by keys piece out) in
       let u = subst (λ (p : Operator). IsUnder st n c (input_of p) d) (sym e) under in
       let k = numbering.kind_of (ops_of st) typed n within o e v ∙ ap (λ (g : Kinds). g v) (group_kinds keys piece out (kinds (ops_of st) i)) in
@@ -178,11 +187,14 @@ module _ (st : BenchState) (typed : IsTyped (ops_of st)) (n : ℕ) (within : n <
         size = omega (arith, s);
         extent = (let y : size_of st (input_at (ops_of st) n) ≡ size_of st i = ap (λ (p : Operator). size_of st (input_of p)) (sym e) in omega (arith, x, y));
         rank = omega arith;
+        maker = makes_here e t;
+        matter = own;
       }
 
   -- a concatenate makes a concatenation of its pieces
-  pub list_made : (i : ℕ) (pieces : List Piece) (out : ℕ) (d : Position) → over i (concatenate pieces out) ≡ op_at (ops_of st) n → (out == v) ≡ true → IsUnder st n c i d → IsOriginOf st n c v (Joined n d)
-  list_made i pieces out d e t u =
+  pub list_made : (i : ℕ) (pieces : List Piece) (out : ℕ) (d : Position) → over i (concatenate pieces out) ≡ op_at (ops_of st) n → (out == v) ≡ true → IsUnder st n c i d → IsBelow st n c i d
+      → IsOriginOf st n c v (Joined n d)
+  list_made i pieces out d e t u below =
       let o : Operator = over i (concatenate pieces out) in
       let k = numbering.kind_of (ops_of st) typed n within o e v in
       let s = numbering.size_of (ops_of st) typed n within o e v ∙ cond_true (out == v) (suc (suc (pieces_count (λ w. suc (size (ops_of st) i w)) pieces))) _ t in
@@ -197,12 +209,14 @@ module _ (st : BenchState) (typed : IsTyped (ops_of st)) (n : ℕ) (within : n <
         size = omega (arith, s, sizes);
         extent = omega (arith, x, extents);
         rank = omega arith;
+        maker = makes_here e t;
+        matter = subst (λ (p : Operator). IsBelow st n c (input_of p) d) e below;
       }
 
   -- a createElement makes an element
   pub element_made : (i : ℕ) (label : List ℕ) (list out : ℕ) (d : Position) → over i (create_element label list out) ≡ op_at (ops_of st) n → (out == v) ≡ true → IsUnder st n c i d
-      → IsOriginOf st n c v (Element n d)
-  element_made i label list out d e t u =
+      → IsBelow st n c i d → IsOriginOf st n c v (Element n d)
+  element_made i label list out d e t u below =
       let o : Operator = over i (create_element label list out) in
       let k = numbering.kind_of (ops_of st) typed n within o e v in
       let x = numbering.extent_of (ops_of st) typed n within o e (size_of st) v ∙ cond_true (out == v) 1 _ t in
@@ -214,15 +228,27 @@ module _ (st : BenchState) (typed : IsTyped (ops_of st)) (n : ℕ) (within : n <
         size = omega arith;
         extent = omega (arith, x);
         rank = omega arith;
+        maker = makes_here e t;
+        matter = subst (λ (p : Operator). IsBelow st n c (input_of p) d) e below;
       }
 
+-- what an origin is made of is so from a cursor above, too
+matter_held : (st : BenchState) (n m : ℕ) (c d : Position) (r : Origin) → IsBelow st n c m d → HasMatterOf st m d r → HasMatterOf st n c r
+matter_held st n m c d (Node s p) b h = tt
+matter_held st n m c d (Element op at) b h = below_twice st n m (input_at (ops_of st) op) c d at b h
+matter_held st n m c d (Joined op at) b h = below_twice st n m (input_at (ops_of st) op) c d at b h
+matter_held st n m c d (All op) b h = tt
+matter_held st n m c d (Same op first number) b h = record { keys = λ v t. (let k = h.keys v t in let x = b.held v a_node k.0 in (x.kind ∙ k.0, x.value ∙ k.1)); first = h.first }
+
 -- a value that a variable has from a cursor further down is made where that one is made
-pub origin_held : (st : BenchState) (n v m : ℕ) (c d : Position) (r : Origin) → IsHeldAt st n c v m d → IsOriginOf st m d v r → IsOriginOf st n c v r
-origin_held st n v m c d r h o = record {
+pub origin_held : (st : BenchState) (n v m : ℕ) (c d : Position) (r : Origin) → IsHeldAt st n c v m d → IsBelow st n c m d → IsOriginOf st m d v r → IsOriginOf st n c v r
+origin_held st n v m c d r h b o = record {
   origin = o.origin;
   value = h.value ∙ o.value;
   kind = h.kind ∙ o.kind;
   size = (let x = h.size in let y = o.size in omega (arith, x, y));
   extent = (let x = h.extent in let y = o.extent in omega (arith, x, y));
   rank = (let x = h.within in let y = o.rank in omega (arith, x, y));
+  maker = o.maker;
+  matter = matter_held st n m c d r b o.matter;
 }

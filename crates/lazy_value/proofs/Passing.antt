@@ -200,7 +200,7 @@ module _ (p : Plan) (typed : IsTyped (plan_value p).ops) (n : ℕ) (within : n <
 
 module _ (p : Plan) (valid : IsValid (plan_value p)) (typed : IsTyped (plan_value p).ops) (n : ℕ) (within : n < length (plan_value p).ops) where
   -- an input does not bind what the operator binds anew
-  other_out : (o : Operator) → o ≡ op_at (plan_value p).ops n → (i out : ℕ) → Among i (inputs_of o) → Among out (outs_of o) → (v : ℕ) (k : Kind) → kinds (plan_value p).ops i v ≡ Some k → (out == v) ≡ false
+  pub other_out : (o : Operator) → o ≡ op_at (plan_value p).ops n → (i out : ℕ) → Among i (inputs_of o) → Among out (outs_of o) → (v : ℕ) (k : Kind) → kinds (plan_value p).ops i v ≡ Some k → (out == v) ≡ false
   other_out o e i out a b v k h =
       elim (out == v) as (λ t. (out == v) ≡ t → t ≡ false) [
         | true ↦ λ g.

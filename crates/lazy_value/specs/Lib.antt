@@ -9,3 +9,4 @@ pub mod Places
 pub mod Sizes
 pub mod Steps
 pub mod Ways
+pub mod Standing

@@ -5,6 +5,7 @@ ghost use Rattle.lazy_steps.specs.Steps.{HasCause};
 ghost use Rattle.plan_forms.specs.Forms.{gathers_groups, input_at};
 ghost use Rattle.lazy_value.specs.Ids.{Stands, GathersAll, IsRest, left, ahead_from};
 ghost use Rattle.lazy_value.specs.Steps.{Falls};
+ghost use Rattle.lazy_value.specs.Standing.{GroupTurnsIn, MembersTurnIn};
 ghost use Rattle.lazy_value.specs.Heights.{KeepsRank};
 ghost use Rattle.lazy_plan.specs.Groups.{GivesMember, IsGroup, group_events};
 ghost use Rattle.lazy_value.specs.Calls.{Between, GivesFrom, TurnsGroup, TurnsMembers, WalkedOver, WalkedTo, after_group, after_members, trees_of_group, trees_of_members};
@@ -85,6 +86,7 @@ pub(crate) fn members<S: Sources>(
     ensures answer { Between S.view s.old bench.old s.new bench.new (λ old new. IfOk result (TurnsMembers old new list.now up.now.value)) }
     ensures left { Between S.view s.old bench.old s.new bench.new (λ old new. IfOk result (Falls (after_members old list.now up.now.value) new)) }
     ensures rank { IfOk result (KeepsRank list.now.op up.now.value) }
+    ensures list { Between S.view s.old bench.old s.new bench.new (λ old new. IfOk result (MembersTurnIn old new list.now up.now.value)) }
 {
     let input = input_of(bench.plan(), list.op);
     match after(alloc, bench, s, input, list.at)? {
@@ -111,6 +113,7 @@ pub(crate) fn group<S: Sources>(
     ensures answer { Between S.view s.old bench.old s.new bench.new (λ old new. IfOk result (TurnsGroup old new group.now up.now.value)) }
     ensures left { Between S.view s.old bench.old s.new bench.new (λ old new. IfOk result (Falls (after_group old group.now up.now.value) new)) }
     ensures rank { IfOk result (KeepsRank group.now.op up.now.value) }
+    ensures list { Between S.view s.old bench.old s.new bench.new (λ old new. IfOk result (GroupTurnsIn old new group.now up.now.value)) }
 {
     match next_of_group(alloc, bench, s, group)? {
         None => Ok(Turn::On(share(up)?)),

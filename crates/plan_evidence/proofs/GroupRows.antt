@@ -35,7 +35,7 @@ module _ (docs : Documents) where
       plain_dearer 1 (piece_items docs q row (collected docs q es (ends 0))) ∙ piece_before row q (collected docs q es (ends 0)) ∙ ap (followed (shown docs row q)) (collected_shown q es)
 
   -- the bindings of events that pass a test are those of the bindings that pass it
-  only_filter : (test : TolledRow → Bool) (es : RowEvents) → without_skips (only test es) ≡ filter test (without_skips es)
+  pub only_filter : (test : TolledRow → Bool) (es : RowEvents) → without_skips (only test es) ≡ filter test (without_skips es)
   only_filter test [] = refl
   only_filter test (skip ∷ es) = only_filter test es
   only_filter test (bind row ∷ es) =

@@ -1,4 +1,5 @@
 pub mod Aparts
+pub mod Counts
 pub mod EachNamed
 pub mod Evidences
 pub mod Evident
@@ -6,6 +7,7 @@ pub mod Found
 pub mod GroupRows
 pub mod HeldApart
 pub mod HeldSteps
+pub mod Leading
 pub mod Makers
 pub mod NamedNodes
 pub mod NamedOnce

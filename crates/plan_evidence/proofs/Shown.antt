@@ -55,7 +55,7 @@ module _ (docs : Documents) where
       ∙ ap (λ (f : Piece → Forest). joined f pieces) (fun_ext (shown_plain row))
 
   -- a list with tolls has as many trees as without
-  count-plain : (f : Tolled) → count_trees f ≡ count (plain f)
+  pub count-plain : (f : Tolled) → count_trees f ≡ count (plain f)
   count-plain (ends t) = refl
   count-plain (item t label kids rest) = ap suc (count-plain rest)
 

@@ -1,9 +1,10 @@
-use Rattle.std.proofs.Common.{ℕ, ◌∙◌, sym, ap, subst}
+use Rattle.std.proofs.Common.{ℕ, ◌≡◌, false, ◌∙◌, sym, ap, subst}
+use Rattle.std.specs.Prelude.{IsTrue}
 use Rattle.plan_core.specs.declared.plan.Plan.{Plan}
 use Rattle.plan_core.specs.PlanMade.{plan_value}
 use Rattle.plan_core.specs.ByNumber.{op_at}
-use Rattle.plan_core.specs.Tolled.{Tolled}
-use Rattle.lazy_plan.specs.Bench.{state_of, IsCursor}
+use Rattle.plan_core.specs.Tolled.{Tolled, is_item}
+use Rattle.lazy_plan.specs.Bench.{state_of, told, IsCursor}
 use Rattle.plan_forms.specs.Forms.{input_at, pieces_of}
 use Rattle.lazy_value.specs.Ids.{element_trees, rest_trees}
 use Rattle.lazy_value.specs.Steps.{StandsFor, Reaches}
@@ -14,7 +15,20 @@ use Rattle.std.proofs.Common.{length, arith}
 use Rattle.lazy_plan.specs.Bench.{ops_of}
 use Rattle.lazy_value.specs.Heights.{rest_rank, GivesRanked}
 use Rattle.lazy_value.proofs.Heights.{origin_ranked, gives_ranked}
+use Rattle.lazy_value.specs.Standing.{TurnIsIn}
+use Rattle.lazy_value.specs.Ways.{IsBelow}
+use Rattle.lazy_value.proofs.DownIn.{entered_in, option_weaker}
 use Rattle.lazy_value.proofs.down.down_element.Goals as goal
+
+pub returns-in-Over-clause-answer : goal.returns-in-Over-clause-answer
+returns-in-Over-clause-answer g c =
+    let view = g.S.Sources.view c.args.s.now in
+    let st = state_of view c.args.bench.now in
+    let input = c.input_of-input.ensures ∙ ap (λ (p : Plan). input_at (plan_value p).ops c.args.op) c.plan.ensures in
+    let o = c.in_ok-origin.ensures view c.requires.bench (subst (λ (n : ℕ). IsCursor st n c.args.at.now) (sym input) c.requires.stands.cursor) in
+    let is = element_is st c.args.op c.element_list-list.result c.input_of-input.result c.args.at.now c.in_ok-origin.origin c.in_ok-end.end.value (ap (λ (p : Plan). pieces_of (op_at (plan_value p).ops c.args.op)) (sym c.plan-2.ensures) ∙ c.element_list-list.ensures) input o c.in_ok-end.ensures in
+    subst (λ (f : Tolled). IsTrue (told st) → is_item f ≡ false) is
+    (rw c.in-Over.is at c.in_ok-enter.ensures.answer view c.requires.bench o.origin (end_rest st c.in_ok-end.end.value c.in_ok-end.ensures))
 
 pub returns-in-At-clause-answer : goal.returns-in-At-clause-answer
 returns-in-At-clause-answer g c = subst (λ (f : Tolled). StandsFor (state_of (g.S.Sources.view c.args.s.now) c.args.bench.now) (state_of (g.S.Sources.view c.args.s.now) c.args.bench.now) f c.in-At.n) (element_is (state_of (g.S.Sources.view c.args.s.now) c.args.bench.now) c.args.op c.element_list-list.result c.input_of-input.result c.args.at.now c.in_ok-origin.origin c.in_ok-end.end.value (ap (λ (p : Plan). pieces_of (op_at (plan_value p).ops c.args.op)) (sym c.plan-2.ensures) ∙ c.element_list-list.ensures) (c.input_of-input.ensures ∙ ap (λ (p : Plan). input_at (plan_value p).ops c.args.op) c.plan.ensures) (c.in_ok-origin.ensures (g.S.Sources.view c.args.s.now) c.requires.bench (subst (λ (n : ℕ). IsCursor (state_of (g.S.Sources.view c.args.s.now) c.args.bench.now) n c.args.at.now) (sym (c.input_of-input.ensures ∙ ap (λ (p : Plan). input_at (plan_value p).ops c.args.op) c.plan.ensures)) c.requires.stands.cursor)) c.in_ok-end.ensures) (rw c.in-At.is at (let o = (c.in_ok-origin.ensures (g.S.Sources.view c.args.s.now) c.requires.bench (subst (λ (n : ℕ). IsCursor (state_of (g.S.Sources.view c.args.s.now) c.args.bench.now) n c.args.at.now) (sym (c.input_of-input.ensures ∙ ap (λ (p : Plan). input_at (plan_value p).ops c.args.op) c.plan.ensures)) c.requires.stands.cursor)) in c.in_ok-enter.ensures.answer (g.S.Sources.view c.args.s.now) c.requires.bench o.origin (end_rest (state_of (g.S.Sources.view c.args.s.now) c.args.bench.now) c.in_ok-end.end.value c.in_ok-end.ensures)))
@@ -46,3 +60,29 @@ pub enter-requires : goal.enter-requires
 enter-requires g c =
     let o = (c.in_ok-origin.ensures (g.S.Sources.view c.args.s.now) c.requires.bench (subst (λ (n : ℕ). IsCursor (state_of (g.S.Sources.view c.args.s.now) c.args.bench.now) n c.args.at.now) (sym (c.input_of-input.ensures ∙ ap (λ (p : Plan). input_at (plan_value p).ops c.args.op) c.plan.ensures)) c.requires.stands.cursor)) in
     record { bench = (g.S.Sources.view c.args.s.now, c.requires.bench, (o.origin, end_rest (state_of (g.S.Sources.view c.args.s.now) c.args.bench.now) c.in_ok-end.end.value c.in_ok-end.ensures)) }
+
+pub returns-in-At-clause-list : goal.returns-in-At-clause-list
+returns-in-At-clause-list g c = λ n d u list holder below ps is.
+    let st = state_of (g.S.Sources.view c.args.s.now) c.args.bench.now in
+    let input = c.input_of-input.ensures ∙ ap (λ (p : Plan). input_at (plan_value p).ops c.args.op) c.plan.ensures in
+    let o = c.in_ok-origin.ensures (g.S.Sources.view c.args.s.now) c.requires.bench (subst (λ (m : ℕ). IsCursor st m c.args.at.now) (sym input) c.requires.stands.cursor) in
+    let own = ap (λ (p : Plan). pieces_of (op_at (plan_value p).ops c.args.op)) (sym c.plan-2.ensures) ∙ c.element_list-list.ensures in
+    let turn = entered_in st c.input_of-input.result c.args.at.now c.element_list-list.result c.in_ok-origin.origin o c.in_ok-end.end.value c.in_ok-end.ensures c.in_ok-enter.field-0
+    (c.in_ok-enter.ensures.list (g.S.Sources.view c.args.s.now) c.requires.bench)
+    n d u list holder (subst (λ (m : ℕ). IsBelow st n d m c.args.at.now) (sym input) below) _ ps own is in
+    subst (TurnIsIn st n d list) c.in-At.is turn
+
+pub returns-clause-list : goal.returns-clause-list
+returns-clause-list g c =
+    if_ok c.first_node.result _ _
+    (λ x h. option_weaker x _ _
+    (λ site k n d u list holder below ps is.
+    let st = state_of (g.S.Sources.view c.args.s.now) c.args.bench.now in
+    let input = c.input_of-input.ensures ∙ ap (λ (p : Plan). input_at (plan_value p).ops c.args.op) c.plan.ensures in
+    let o = c.in_ok-origin.ensures (g.S.Sources.view c.args.s.now) c.requires.bench (subst (λ (m : ℕ). IsCursor st m c.args.at.now) (sym input) c.requires.stands.cursor) in
+    let own = ap (λ (p : Plan). pieces_of (op_at (plan_value p).ops c.args.op)) (sym c.plan-2.ensures) ∙ c.element_list-list.ensures in
+    let turn = entered_in st c.input_of-input.result c.args.at.now c.element_list-list.result c.in_ok-origin.origin o c.in_ok-end.end.value c.in_ok-end.ensures c.in_ok-enter.field-0
+    (c.in_ok-enter.ensures.list (g.S.Sources.view c.args.s.now) c.requires.bench)
+    n d u list holder (subst (λ (m : ℕ). IsBelow st n d m c.args.at.now) (sym input) below) _ ps own is in
+    k n d list holder (subst (TurnIsIn st n d list) c.in-On.is turn)) h)
+    c.first_node.ensures.list

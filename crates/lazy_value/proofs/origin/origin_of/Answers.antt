@@ -6,6 +6,7 @@ use Rattle.lazy_plan.specs.Bench.{state_of, plan_of, IsBenchOf, IsCursor}
 use Rattle.lazy_value.specs.Origins.{IsOriginOf}
 use Rattle.lazy_value.specs.Ways.{IsWay, IsHeldAt, foot_op, foot_at}
 use Rattle.lazy_value.specs.declared.ways.Way.{Way}
+use Rattle.lazy_value.proofs.Along.{foot_below}
 use Rattle.lazy_value.proofs.Heads.{if_ok}
 use Rattle.lazy_value.proofs.Making.{origin_held}
 use Rattle.lazy_value.proofs.origin.origin_of.Goals as goal
@@ -37,7 +38,8 @@ returns c =
     if_ok c.made_here.result _ (λ r. (view : View) → IsBenchOf view c.args.bench.now → IsCursor (state_of view c.args.bench.now) c.args.op c.args.c.now → IsOriginOf (state_of view c.args.bench.now) c.args.op c.args.c.now c.args.v r)
     (λ r k view h i.
     let st = state_of view c.args.bench.now in
-    let g = (c.in_ok-way.ensures.held view h c.args.op c.args.c.now i (subst (IsWay st c.args.op c.args.c.now) (sym c.in_ok-top.ensures.last) (refl, refl))).1 in
-    let held = subst (λ (w : Way). IsHeldAt st c.args.op c.args.c.now c.args.v (foot_op w) (foot_at w)) (sym c.deref.ensures) g in
-    origin_held st c.args.op c.args.v (foot_op c.deref.result.now) c.args.c.now (foot_at c.deref.result.now) r held (k view h held.cursor))
+    let g = c.in_ok-way.ensures.held view h c.args.op c.args.c.now i (subst (IsWay st c.args.op c.args.c.now) (sym c.in_ok-top.ensures.last) (refl, refl)) in
+    let held = subst (λ (w : Way). IsHeldAt st c.args.op c.args.c.now c.args.v (foot_op w) (foot_at w)) (sym c.deref.ensures) g.1 in
+    let below = foot_below st c.args.op c.args.c.now i c.deref.result.now (subst (IsWay st c.args.op c.args.c.now) (sym c.deref.ensures) g.0) in
+    origin_held st c.args.op c.args.v (foot_op c.deref.result.now) c.args.c.now (foot_at c.deref.result.now) r held below (k view h held.cursor))
     c.made_here.ensures

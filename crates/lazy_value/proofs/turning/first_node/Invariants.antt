@@ -2,6 +2,7 @@ use Rattle.std.proofs.Common.{◌≤◌}
 use Rattle.lazy_plan.specs.Bench.{state_of, IsBenchOf}
 use Rattle.lazy_value.specs.Ids.{IsRest, rest_trees, weight, left}
 use Rattle.lazy_value.specs.Heights.{rest_rank}
+use Rattle.lazy_value.specs.Standing.{StaysLeft}
 use Rattle.lazy_value.proofs.Turns.{Paid}
 use Rattle.lazy_value.proofs.turning.first_node.Given as goal
 
@@ -13,6 +14,7 @@ invariant-turns g l = record {
   paid : Paid (state_of (g.S.Sources.view l.fn.s) l.fn.bench) (state_of (g.S.Sources.view l.s) l.bench)
       (rest_trees (state_of (g.S.Sources.view l.fn.s) l.fn.bench) l.fn.rest.value) (rest_trees (state_of (g.S.Sources.view l.s) l.bench) l.now.value);
   rank : rest_rank l.now.value ≤ rest_rank l.fn.rest.value;
+  list : StaysLeft (state_of (g.S.Sources.view l.fn.s) l.fn.bench) (state_of (g.S.Sources.view l.s) l.bench) l.fn.rest.value l.now.value;
   left : left (state_of (g.S.Sources.view l.s) l.bench) l.now.value ≤ left (state_of (g.S.Sources.view l.fn.s) l.fn.bench) l.fn.rest.value;
 }
 

@@ -10,6 +10,7 @@ use Rattle.lazy_value.proofs.Heads.{if_ok}
 use Rattle.lazy_value.specs.Heights.{rest_rank, KeepsRank}
 use Rattle.lazy_value.proofs.Heights.{origin_ranked, put_ranked, member_ranked}
 use Rattle.lazy_value.proofs.PieceTurns.{there_is, var_turned, var_fallen, head_stands, head_falls, rest_on, over_pieces}
+use Rattle.lazy_value.proofs.PiecesIn.{origin_over, over_left, later_below, later_next, head_in}
 use Rattle.std.proofs.lemmas.Grind.{common_steps}
 use Rattle.lazy_value.proofs.turning.pieces.Goals as goal
 
@@ -63,7 +64,35 @@ returns-in_ok-rest-in_default c =
       rank = (let view = c.requires.bench.0 in let h = c.requires.bench.1 in let i = c.requires.bench.2 in let st = state_of view c.args.bench.now in
           let x = (c.in_ok-head-in_default.ensures view h (subst (λ (n : ℕ). IsCursor st n c.args.from.now.at.now) (sym (c.input_of-input.ensures ∙ ap (λ (p : Plan). input_at (plan_value p).ops c.args.from.now.op) c.plan-in_default.ensures)) i.stands.cursor)) in
           member_ranked c.in_ok-head-in_default.head c.in_ok-rest-in_default.rest c.args.from.now.op c.args.up.now.value x.rank (ap rest_rank b.is));
+      list = λ view h i n d list q holder l.
+          let st = state_of view c.args.bench.now in
+          let op = c.args.from.now.op in
+          let input = c.input_of-input.ensures ∙ ap (λ (p : Plan). input_at (plan_value p).ops op) c.plan-in_default.ensures in
+          head_in st n d list op c.args.from.now.next c.args.from.now.at.now c.args.ways.now q c.args.up.now.value l c.in_ok-head-in_default.head
+          (there_is _ _ _ _ i.next c.count_pieces.ensures (ap (λ (p : Plan). length (pieces_of (op_at (plan_value p).ops c.args.from.now.op))) c.plan.ensures) c.if-from-count_pieces.false)
+          (c.in_ok-head-in_default.ensures view h (subst (λ (m : ℕ). IsCursor st m c.args.from.now.at.now) (sym input) i.stands.cursor))
+          (λ v e. c.in_default.not-Var v (c.piece.ensures ∙ ap (λ (p : Plan). piece_at (plan_value p).ops op c.args.from.now.next) c.plan-2.ensures ∙ e)) _ b.count c.in_ok-rest-in_default.rest.value b.is;
     }
+
+pub returns-in_ok-after-in-Var-clause-list : goal.returns-in_ok-after-in-Var-clause-list
+returns-in_ok-after-in-Var-clause-list c =
+    let b = c.in_ok-after-in-Var.ensures in
+    if_ok c.enter.result _ _
+    (λ t k view h i n d list q holder l.
+    let st = state_of view c.args.bench.now in
+    let op = c.args.from.now.op in
+    let at = c.args.from.now.at.now in
+    let f = c.in_ok-found-in-Var.ensures view h (input_at (ops_of st) op) at i.stands.cursor i.along in
+    let there = (there_is _ _ _ _ i.next c.count_pieces.ensures (ap (λ (p : Plan). length (pieces_of (op_at (plan_value p).ops c.args.from.now.op))) c.plan.ensures) c.if-from-count_pieces.false) in
+    let is = sym (c.piece.ensures ∙ ap (λ (p : Plan). piece_at (plan_value p).ops op c.args.from.now.next) c.plan-2.ensures) ∙ c.in-Var.is in
+    k view h n d c.in-Var.v list holder (origin_over st n (input_at (ops_of st) op) d at c.in-Var.v c.in_ok-found-in-Var.found.origin l.below.0 f.0)
+    (later_below st n d list op c.args.from.now.next at c.args.ways.now q c.args.up.now.value l _ b.count c.in_ok-after-in-Var.after.value b.is)
+    (later_next st n d list op c.args.from.now.next at c.args.ways.now q c.args.up.now.value l c.in-Var.v there is _ b.count c.in_ok-after-in-Var.after.value b.is))
+    c.enter.ensures.list
+
+pub returns-then-from-count_pieces-clause-list : goal.returns-then-from-count_pieces-clause-list
+returns-then-from-count_pieces-clause-list c = λ view h i n d list q holder l.
+    over_left (state_of view c.args.bench.now) n d list c.args.from.now.op c.args.from.now.next c.args.from.now.at.now c.args.ways.now q c.args.up.now.value l c.in_ok-share.field-0.value c.in_ok-share.ensures
 
 pub enter-requires : goal.enter-requires
 enter-requires c =

@@ -2,7 +2,7 @@ use Rattle.std.proofs.Common.{sym, ap, subst, arith}
 use Rattle.lazy_plan.specs.Bench.{state_of, IsCursor}
 use Rattle.lazy_value.proofs.Along.{foot_below}
 use Rattle.lazy_value.proofs.Making.{origin_held}
-use Rattle.lazy_value.specs.Ways.{IsHeldAt, foot_op, foot_at}
+use Rattle.lazy_value.specs.Ways.{IsHeldAt, IsWay, foot_op, foot_at}
 use Rattle.lazy_value.specs.declared.ways.Way.{Way}
 use Rattle.lazy_value.proofs.ways.found_along.Goals as goal
 
@@ -32,11 +32,22 @@ made_here-requires-2-clause-bench c =
           (c.in_ok-last-2.ensures.held b.0 b.1 l.op l.at l.has.cursor (c.in_ok-place.ensures.way st l.op l.at l.ways.0)).1.cursor,
     )
 
+pub returns-then-brings : goal.returns-then-brings
+returns-then-brings c = λ view h n d i w.
+    let st = state_of view c.args.bench.now in
+    let g = c.in_ok-lowest.ensures.held view h n d i w.1 in
+    let k = subst (λ (x : Way). IsHeldAt st n d c.args.v (foot_op x) (foot_at x)) (sym c.deref-then-brings.ensures) g.1 in
+    let b = foot_below st n d i c.deref-then-brings.result.now (subst (IsWay st n d) (sym c.deref-then-brings.ensures) g.0) in (
+      origin_held st n c.args.v (foot_op c.deref-then-brings.result.now) d (foot_at c.deref-then-brings.result.now) c.in_ok-origin.origin k b (c.in_ok-origin.ensures view h k.cursor),
+      (subst (IsWay st n d) (sym c.in_ok-last.ensures) w.0, g.0),
+    )
+
 pub returns : goal.returns
 returns c = λ view h n d i w.
     let st = state_of view c.args.bench.now in
     let g = c.in_ok-last-2.ensures.held view h n d i (c.in_ok-place.ensures.way st n d w.0) in
-    let k = subst (λ (x : Way). IsHeldAt st n d c.args.v (foot_op x) (foot_at x)) (sym c.deref-2.ensures) g.1 in (
-      origin_held st n c.args.v (foot_op c.deref-2.result.now) d (foot_at c.deref-2.result.now) c.in_ok-origin-2.origin k (c.in_ok-origin-2.ensures view h k.cursor),
+    let k = subst (λ (x : Way). IsHeldAt st n d c.args.v (foot_op x) (foot_at x)) (sym c.deref-2.ensures) g.1 in
+    let b = foot_below st n d i c.deref-2.result.now (subst (IsWay st n d) (sym c.deref-2.ensures) g.0) in (
+      origin_held st n c.args.v (foot_op c.deref-2.result.now) d (foot_at c.deref-2.result.now) c.in_ok-origin-2.origin k b (c.in_ok-origin-2.ensures view h k.cursor),
       (g.0, c.in_ok-lowest-2.ensures st n d g.0 w.1),
     )
