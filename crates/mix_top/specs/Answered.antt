@@ -108,7 +108,7 @@ pub record IsAnsweredIn (w : Manner) (before after : StoresView) (q : Question) 
   pub counted : (s : ℕ) (d : Declared) → IsTable q.ops q.sources s d → HasRisenBy (faults_of s answers) (before.tables.faults d) (after.tables.faults d)
   pub counted_far : (s : ℕ) (far : FarSource) → IsFar q.ops q.sources s far → HasRisenBy (faults_of s answers) (before.fars.faults far) (after.fars.faults far)
   pub status_is : status ≡ cond (has_fault answers) 1 0
-  -- each page was asked for a fill
+  -- no more pages of tables were asked than fills
   pub pages : after.tables.pages ≤ before.tables.pages + fills
   -- over told documents no more fills were asked than the tolls of the steps come to that were begun
   pub cost : all_told before q.ops q.sources ≡ true → IsFrugal w sink.written sink'.written q fills answers
