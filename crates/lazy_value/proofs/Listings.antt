@@ -34,7 +34,7 @@ use Rattle.lazy_value.specs.Ways.{IsBelow}
 -- BY THE OPERATOR
 
 -- an operator that makes the value of a variable binds it anew
-makes_out : (o : Operator) (v : ℕ) → makes o v ≡ true → Among v (outs_of o)
+pub makes_out : (o : Operator) (v : ℕ) → makes o v ≡ true → Among v (outs_of o)
 makes_out (source s out) v m = cc
 makes_out (get_descendants i start path out) v m = cc
 makes_out (join l r tests) v m = cc

@@ -54,7 +54,7 @@ module _ (a b : BenchState) (k : KeepsBench a b) where
       ∙ ap (members_left (input_at (ops_of a) op) (keys_of (op_at (ops_of a) op)) (piece_of (ops_of a) op) (group_ahead a op first at)) (remains-kept up h.3)
 
   -- sources that are told after a call were told before it
-  told_before : IsTrue (told b) → IsTrue (told a)
+  pub told_before : IsTrue (told b) → IsTrue (told a)
   told_before y = sym k.told ∙ y
 
   module _ (n : ℕ) (c : Position) (h : IsHolder a n c) where

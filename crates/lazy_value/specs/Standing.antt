@@ -1,16 +1,16 @@
 -- Where an identifier stands in the list of the element above it: what is left of that list after it.
 use Rattle.std.specs.Prelude.{◌≡◌, ◌<◌, ℕ, suc, IsTrue, MatchOption, Option, Some, None, List, [], ◌∷◌, ◌++◌, length, slice_get}
-use Rattle.std.specs.List.{AllByRecursion}
-use Rattle.mix_base.specs.Events.{without_skips}
+use Rattle.std.specs.List.{AllByRecursion, last_or}
+use Rattle.mix_base.specs.Events.{found, without_skips}
 use Rattle.mix_tree.specs.Nodes.{Documents}
 use Rattle.mix_tree.specs.declared.var.Key.{Key}
 use Rattle.plan_core.specs.declared.plan.Piece.{Piece}
 use Rattle.plan_core.specs.declared.plan.Piece.TheVariants.{Var as var_piece}
 use Rattle.plan_core.specs.ByNumber.{op_at}
-use Rattle.plan_core.specs.Events.{RowEvents}
+use Rattle.plan_core.specs.Events.{RowEvents, first_row}
 use Rattle.plan_core.specs.Plans.{Operator}
 use Rattle.plan_core.specs.TolledRows.{TolledRow}
-use Rattle.plan_evidence.specs.Named.{Listing, of_pieces, of_group, list_of, members}
+use Rattle.plan_evidence.specs.Named.{maker, Listing, of_pieces, of_group, element_list, list_of, members, outer_of}
 use Rattle.plan_evidence.specs.Remains.{Remains, nothing_left, pieces_left, members_left, IsSameIn, IsAround, StandsAt}
 use Rattle.plan_forms.specs.Forms.{gathers_all, gathers_groups, input_at, keys_of, pieces_of, piece_of}
 use Rattle.lazy_binding.specs.declared.position.Position.{Position}
@@ -189,3 +189,29 @@ HeadChildIn old new (Whole s p) x = Unit {0}
 HeadChildIn old new (Built op at) x = ChildStandsIn old new op at x
 HeadChildIn old new (Leaf s p) x = Unit {0}
 HeadChildIn old new (Text op index) x = Unit {0}
+
+-- an identifier stands in the list of the outer element, over the first binding of the last operator's input
+pub record IsInOuter (st : BenchState) (site : Site) : Type 0 where
+  pub input : ℕ
+  pub outer : ℕ
+  pub at : Position
+  pub is_outer : outer_of (last_or None (ops_of st)) ≡ Some (input, outer)
+  pub holder : IsHolder st input at
+  pub row : IsTrue (told st) → binding_at st input at ≡ first_row (found (events_of st input))
+  pub stands : (u : ℕ) (list : Listing) → element_list (maker (ops_of st) outer) ≡ Some u → list_of (ops_of st) u ≡ Some list → SiteStandsIn st input at list site
+
+-- the first child of the root, if it has one, stands in the list of the outer element
+abbrev pub RootChildIn : BenchState → Option Site → Type 0
+RootChildIn st x = MatchOption x (Unit {0}) (IsInOuter st)
+
+-- from one state to another, the first child of a node that the plan makes stands in the list of that element
+abbrev pub SiteChildIn : BenchState → BenchState → Site → Option Site → Type 0
+SiteChildIn old new Root x = RootChildIn new x
+SiteChildIn old new (Inside s p) x = Unit {0}
+SiteChildIn old new (Item head rest) x = HeadChildIn old new head x
+
+-- from one state to another, the next sibling of a member of a list that the plan makes stands in each list of which the rest after it is left
+abbrev pub SiteNextIn : BenchState → BenchState → Site → Option Site → Type 0
+SiteNextIn old new Root x = Unit {0}
+SiteNextIn old new (Inside s p) x = Unit {0}
+SiteNextIn old new (Item head rest) x = ReachesIn old new rest.value x

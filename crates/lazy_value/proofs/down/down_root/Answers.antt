@@ -9,6 +9,9 @@ use Rattle.lazy_value.specs.Heights.{origin_rank, roots_of, site_height, IsLower
 use Rattle.lazy_value.specs.declared.ids.Site.TheVariants.{Root}
 use Rattle.lazy_value.proofs.Heads.{if_ok}
 use Rattle.lazy_value.proofs.Heights.{lower_more, ranked_lower, roots_same}
+use Rattle.lazy_value.specs.Origins.{IsOriginOf}
+use Rattle.lazy_value.specs.Standing.{ChildStandsIn, RootChildIn}
+use Rattle.lazy_value.proofs.DownIn.{root_in}
 use Rattle.lazy_value.proofs.down.down_root.Goals as goal
 
 pub returns-in-Element-clause-walked : goal.returns-in-Element-clause-walked
@@ -31,3 +34,19 @@ returns-in-Element-clause-height g c =
     let same = roots_same (g.S.Sources.view c.args.s.now) (g.S.Sources.view c.down_element.new.s) c.args.bench.now c.down_element.new.bench (g.met.S.Sources.keeps c.args.s.now c.down_element.new.s came) c.requires.bench in
     if_ok c.down_element.result _ (IsLower (site_height (state_of (g.S.Sources.view c.args.s.now) c.args.bench.now) Root) (state_of (g.S.Sources.view c.down_element.new.s) c.down_element.new.bench))
     (λ r h. lower_more (state_of (g.S.Sources.view c.down_element.new.s) c.down_element.new.bench) (roots_of (state_of (g.S.Sources.view c.args.s.now) c.args.bench.now) + suc c.in-Element.op) (roots_of (state_of (g.S.Sources.view c.args.s.now) c.args.bench.now) + length (ops_of (state_of (g.S.Sources.view c.args.s.now) c.args.bench.now))) (omega (arith, rank, e, within)) r (ranked_lower (state_of (g.S.Sources.view c.args.s.now) c.args.bench.now) (state_of (g.S.Sources.view c.down_element.new.s) c.down_element.new.bench) c.in-Element.op same r h)) c.down_element.ensures.rank
+
+pub returns-in-Element-clause-list : goal.returns-in-Element-clause-list
+returns-in-Element-clause-list g c =
+    let old = state_of (g.S.Sources.view c.args.s.now) c.args.bench.now in
+    let mid = state_of (g.S.Sources.view c.first.new.s) c.first.new.self in
+    let new = state_of (g.S.Sources.view c.down_element.new.s) c.down_element.new.bench in
+    let input = c.last-input.result.0 in
+    let outer = c.last-input.result.1 in
+    let b = c.first.ensures.ran.bench in
+    let f = rw c.in-Some.is at c.in_ok-first.ensures.answer in
+    let o = c.in_ok-op-in-Some.ensures (g.S.Sources.view c.first.new.s) b f.cursor in
+    let last = subst (λ (p : Plan). IsLast (plan_value p).ops input outer) c.plan.ensures c.last-input.ensures in
+    if_ok c.down_element.result (ChildStandsIn mid new c.in-Element.op c.in-Element.at) (RootChildIn new)
+    (root_in old mid new c.first.ensures.ran.kept c.down_element.ensures.walked.kept b.valid b.fixed.typed input outer c.in-Element.op c.in-Some.c c.in-Element.at last f
+    (subst (IsOriginOf mid input c.in-Some.c outer) c.in-Element.is o))
+    c.down_element.ensures.list
