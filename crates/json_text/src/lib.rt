@@ -3,6 +3,7 @@
 
 mod fault;
 mod reading;
+mod stop;
 mod values;
 
 pub use fault::JsonFault;

@@ -8,25 +8,26 @@ ghost use Rattle.json_text.specs.Answers.{Answers};
 ghost use Rattle.json_text.specs.Trees.{value_tree};
 
 use crate::JsonFault;
+use crate::stop::Stop;
 use crate::values::read_labelled;
 use document_store::Store;
-use json::{Error, MAX_DEPTH, Reader, Scratch};
+use json::{MAX_DEPTH, Reader, Scratch};
 use mix_tree::Label;
 use std::alloc::Global;
 use std::str;
 
 // Reads the only value of a text, and puts in its tree, whose root has this name, below the document node.
-fn read_root(reader: &mut Reader, store: &mut Store, name: &[u8]) -> Result<(), Error>
+fn read_root(reader: &mut Reader, store: &mut Store, name: &[u8]) -> Result<(), Stop>
     requires utf8 { IsUtf8 name.now }
     requires empty { store.old ≡ bare_node [] ∷ [] }
     ensures ok { OnOk result ((v : Json) × (value max_depth reader.old ≡ Some (v, []))
         × IsDocument store.new (value_tree name.now v)) }
-    ensures invalid { result ≡ Err Error.Invalid
+    ensures refused { result ≡ Err Stop.NotJson
         → option_and_then (λ p. if_last p.0 p.1) (value max_depth reader.old) ≡ None }
 {
     read_labelled(reader, store, name, MAX_DEPTH)?;
     if reader.next().is_some() {
-        return Err(Error::Invalid);
+        return Err(Stop::NotJson);
     }
     store.close(0);
     Ok(())
@@ -45,8 +46,8 @@ fn read(alloc: Global, name: &Label, text: &str) -> Result<Store, JsonFault>
             store.shrink();
             Ok(store)
         }
-        Err(Error::Invalid) => Err(JsonFault::NotJson(reader.offset().min(text.len()))),
-        Err(_) => Err(JsonFault::OutOfMemory),
+        Err(Stop::NotJson) => Err(JsonFault::NotJson(reader.offset().min(text.len()))),
+        Err(Stop::OutOfMemory) => Err(JsonFault::OutOfMemory),
     }
 }
 

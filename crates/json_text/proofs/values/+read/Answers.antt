@@ -11,8 +11,8 @@ use Rattle.json_text.specs.Trees.{items_trees, members_trees, value_tree, value_
 use Rattle.json_text.proofs.Passed.{none_passed, one_passed, all_passed, none_left}
 use Rattle.json_text.proofs.values.+read.Goals as goal
 
-pub read_value-returns-in_err-text-clause-invalid : goal.read_value-returns-in_err-text-clause-invalid
-read_value-returns-in_err-text-clause-invalid t c invalid =
+pub read_value-returns-in_err-text-clause-refused : goal.read_value-returns-in_err-text-clause-refused
+read_value-returns-in_err-text-clause-refused t c refused =
     let empty : c.args.reader.now ≡ [] = grind arith in
     ap (value c.args.depth) empty ∙ value_is c.args.depth []
 
@@ -53,11 +53,11 @@ read_value-returns-in-BeginArray-clause-ok t c =
     let opened = ap (value c.args.depth) (first ∙ ap (λ k. token_of k ∷ c.next.new.self) c.in-BeginArray.is) ∙ value-begin_array c.args.depth c.next.new.self (omega arith) in
     on_ok_weaker c.read_items.result (λ r. (array r.0, opened ∙ ap (parse_map array) r.1, r.2)) c.read_items.ensures.ok
 
-pub read_value-returns-in-BeginArray-clause-invalid : goal.read_value-returns-in-BeginArray-clause-invalid
-read_value-returns-in-BeginArray-clause-invalid t c invalid =
+pub read_value-returns-in-BeginArray-clause-refused : goal.read_value-returns-in-BeginArray-clause-refused
+read_value-returns-in-BeginArray-clause-refused t c refused =
     let first : c.args.reader.now ≡ token_of c.in_ok-text.field-0 ∷ c.next.new.self = grind arith in
     let opened = ap (value c.args.depth) (first ∙ ap (λ k. token_of k ∷ c.next.new.self) c.in-BeginArray.is) ∙ value-begin_array c.args.depth c.next.new.self (omega arith) in
-    opened ∙ ap (parse_map array) (c.read_items.ensures.invalid invalid)
+    opened ∙ ap (parse_map array) (c.read_items.ensures.refused refused)
 
 pub read_value-returns-in-BeginObject-clause-ok : goal.read_value-returns-in-BeginObject-clause-ok
 read_value-returns-in-BeginObject-clause-ok t c =
@@ -65,11 +65,11 @@ read_value-returns-in-BeginObject-clause-ok t c =
     let opened = ap (value c.args.depth) (first ∙ ap (λ k. token_of k ∷ c.next.new.self) c.in-BeginObject.is) ∙ value-begin_object c.args.depth c.next.new.self (omega arith) in
     on_ok_weaker c.read_members.result (λ r. (object r.0, opened ∙ ap (parse_map object) r.1, r.2)) c.read_members.ensures.ok
 
-pub read_value-returns-in-BeginObject-clause-invalid : goal.read_value-returns-in-BeginObject-clause-invalid
-read_value-returns-in-BeginObject-clause-invalid t c invalid =
+pub read_value-returns-in-BeginObject-clause-refused : goal.read_value-returns-in-BeginObject-clause-refused
+read_value-returns-in-BeginObject-clause-refused t c refused =
     let first : c.args.reader.now ≡ token_of c.in_ok-text.field-0 ∷ c.next.new.self = grind arith in
     let opened = ap (value c.args.depth) (first ∙ ap (λ k. token_of k ∷ c.next.new.self) c.in-BeginObject.is) ∙ value-begin_object c.args.depth c.next.new.self (omega arith) in
-    opened ∙ ap (parse_map object) (c.read_members.ensures.invalid invalid)
+    opened ∙ ap (parse_map object) (c.read_members.ensures.refused refused)
 
 pub read_labelled-returns-clause-ok : goal.read_labelled-returns-clause-ok
 read_labelled-returns-clause-ok t c =
@@ -92,8 +92,8 @@ read_items-loop-reader-preserved t c =
     let more = items_more (value c.args.depth) n l.reader c.read_labelled.new.reader done.ok.0 some going.0 (rw (← going.1) done.ok.1) in
     (n - 1, omega (arith, l.invariant.1), omega (arith, l.invariant.2), one_passed l.invariant.3 (item done.ok.0) _ _ _ more (λ js. refl) done.ok.2)
 
-pub read_items-returns-in_err-read_labelled-clause-invalid : goal.read_items-returns-in_err-read_labelled-clause-invalid
-read_items-returns-in_err-read_labelled-clause-invalid t c invalid =
+pub read_items-returns-in_err-read_labelled-clause-refused : goal.read_items-returns-in_err-read_labelled-clause-refused
+read_items-returns-in_err-read_labelled-clause-refused t c refused =
     let l = c.loop-reader in
     let going : (after_end_array l.reader ≡ None) × (c.take_end_array.new.self ≡ l.reader) = grind arith in
     let failed : value c.args.depth c.take_end_array.new.self ≡ None = grind arith in
@@ -107,8 +107,8 @@ read_items-returns-clause-ok t c =
 pub read_members-loop-name-init : goal.read_members-loop-name-init
 read_members-loop-name-init t c = (length c.args.reader.now, omega arith, omega arith, none_passed members_trees _ _)
 
-pub read_members-returns-in_err-name-clause-invalid : goal.read_members-returns-in_err-name-clause-invalid
-read_members-returns-in_err-name-clause-invalid t c invalid =
+pub read_members-returns-in_err-name-clause-refused : goal.read_members-returns-in_err-name-clause-refused
+read_members-returns-in_err-name-clause-refused t c refused =
     let l = c.loop-name in
     none_left l.invariant.3 (members_no_key (value c.args.depth) l.invariant.0 l.reader c.in_err-name.ensures.value)
 
@@ -127,8 +127,8 @@ read_members-loop-name-preserved t c =
     done.ok.2 ∙ ap (λ k. laid (alone (value_tree k done.ok.0)) ++ l.store) c.as_bytes.ensures.value in
     (n - 1, omega (arith, l.invariant.1), omega (arith, l.invariant.2), one_passed l.invariant.3 (member name done.ok.0) (value_tree name done.ok.0) _ _ more (λ ms. refl) laid_is)
 
-pub read_members-returns-in_err-read_labelled-clause-invalid : goal.read_members-returns-in_err-read_labelled-clause-invalid
-read_members-returns-in_err-read_labelled-clause-invalid t c invalid =
+pub read_members-returns-in_err-read_labelled-clause-refused : goal.read_members-returns-in_err-read_labelled-clause-refused
+read_members-returns-in_err-read_labelled-clause-refused t c refused =
     let l = c.loop-name in
     let name = c.in-Some.name.now in
     let s = c.next_key.new.self in
@@ -141,21 +141,21 @@ read_members-returns-clause-ok t c =
     let l = c.loop-name in
     all_passed l.invariant.3 no_members _ (members_end (value c.args.depth) l.invariant.0 l.reader c.next_key.new.self l.invariant.1 (grind arith)) refl
 
-pub read_value-returns-in-EndArray-clause-invalid : goal.read_value-returns-in-EndArray-clause-invalid
-read_value-returns-in-EndArray-clause-invalid t c invalid =
+pub read_value-returns-in-EndArray-clause-refused : goal.read_value-returns-in-EndArray-clause-refused
+read_value-returns-in-EndArray-clause-refused t c refused =
     let first : c.args.reader.now ≡ token_of c.in_ok-text.field-0 ∷ c.next.new.self = grind arith in
     rw (value_is c.args.depth c.args.reader.now, first) (grind arith)
 
-pub read_value-returns-in-BeginArray-2-clause-invalid : goal.read_value-returns-in-BeginArray-2-clause-invalid
+pub read_value-returns-in-BeginArray-2-clause-refused : goal.read_value-returns-in-BeginArray-2-clause-refused
 unfolding value
-read_value-returns-in-BeginArray-2-clause-invalid t c invalid =
+read_value-returns-in-BeginArray-2-clause-refused t c refused =
     let first : c.args.reader.now ≡ token_of c.in_ok-text.field-0 ∷ c.next.new.self = grind arith in
     let none : c.args.depth ≡ 0 = omega arith in
     ap₂ value none (first ∙ ap (λ k. token_of k ∷ c.next.new.self) c.in-BeginArray.is)
 
-pub read_value-returns-in-BeginArray-2-2-clause-invalid : goal.read_value-returns-in-BeginArray-2-2-clause-invalid
+pub read_value-returns-in-BeginArray-2-2-clause-refused : goal.read_value-returns-in-BeginArray-2-2-clause-refused
 unfolding value
-read_value-returns-in-BeginArray-2-2-clause-invalid t c invalid =
+read_value-returns-in-BeginArray-2-2-clause-refused t c refused =
     let first : c.args.reader.now ≡ token_of c.in_ok-text.field-0 ∷ c.next.new.self = grind arith in
     let none : c.args.depth ≡ 0 = omega arith in
     ap₂ value none (first ∙ ap (λ k. token_of k ∷ c.next.new.self) c.in-BeginObject.is)
