@@ -15,7 +15,7 @@ use Rattle.plan_core.specs.Typed.{IsTyped}
 use Rattle.plan_core.specs.Unary.{select, order_by, project, group_by, concatenate, create_element}
 use Rattle.plan_core.specs.Valid.{IsValid}
 use Rattle.plan_evidence.proofs.Makers.{made_by}
-use Rattle.plan_forms.specs.Forms.{form, makes_element, pieces_of, IsLast}
+use Rattle.plan_forms.specs.Forms.{form, input_at, makes_element, pieces_of, IsLast}
 use Rattle.plan_core.specs.declared.plan.Piece.{Piece}
 use Rattle.plan_core.specs.declared.plan.Piece.TheVariants.{Var as var_piece}
 use Rattle.plan_evidence.specs.Named.{maker, Listing, element_list, list_of, outer_of}
@@ -43,13 +43,14 @@ pub option_weaker : {X : Type 0} (x : Option X) (P Q : X → Type 0) → ((y : X
 option_weaker None P Q f h = tt
 option_weaker (Some y) P Q f h = f y h
 
-module _ (st : BenchState) (input : ℕ) (at : Position) (v : ℕ) (origin : Origin) (o : IsOriginOf st input at v origin) (end : Rest) (e : end ≡ End) (t : Turn) (enters : EntersList st origin end t) where
+module _ (st : BenchState) (op v input : ℕ) (at : Position) (origin : Origin) (end : Rest) (own : pieces_of (op_at (ops_of st) op) ≡ var_piece v ∷ []) (i : input ≡ input_at (ops_of st) op)
+    (o : IsOriginOf st input at v origin) (e : end ≡ End) (t : Turn) (enters : EntersList st origin end t) where
   -- a turn that enters the list of an element is of that list, over each binding that has all that the element is made of
-  pub entered_in : (n : ℕ) (c : Position) (u : ℕ) (list : Listing) → IsHolder st n c → IsBelow st n c input at → (ps : List Piece) → ps ≡ var_piece u ∷ [] → ps ≡ var_piece v ∷ [] → list_of (ops_of st) u ≡ Some list
-      → TurnIsIn st n c list t
-  entered_in n c u list holder below ps is own listed =
-      let listed' : list_of (ops_of st) v ≡ Some list = subst (λ w. list_of (ops_of st) w ≡ Some list) (sym (one_list ps u v is own)) listed in
-      enters n c v list holder (origin_over st n input c at v origin below o) (subst (AreBelow st n c) (sym e) tt)
+  pub entered_in : (n : ℕ) (c : Position) (u : ℕ) (list : Listing) → IsHolder st n c → IsBelow st n c (input_at (ops_of st) op) at → pieces_of (op_at (ops_of st) op) ≡ var_piece u ∷ []
+      → list_of (ops_of st) u ≡ Some list → TurnIsIn st n c list t
+  entered_in n c u list holder below is listed =
+      let listed' : list_of (ops_of st) v ≡ Some list = subst (λ w. list_of (ops_of st) w ≡ Some list) (sym (one_list (pieces_of (op_at (ops_of st) op)) u v is own)) listed in
+      enters n c v list holder (origin_over st n input c at v origin (subst (λ (m : ℕ). IsBelow st n c m at) (sym i) below) o) (subst (AreBelow st n c) (sym e) tt)
       (λ y. subst (λ r. ComesNext (documents st) (ops_of st) (binding_at st n c) list (remains st r) v) (sym e) (the_whole listed'))
 
 -- THE ROOT

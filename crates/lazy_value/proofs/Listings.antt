@@ -24,7 +24,7 @@ use Rattle.plan_evidence.proofs.Aparts.{at_index, each_without}
 use Rattle.plan_evidence.proofs.Makers.{made_by}
 use Rattle.plan_evidence.proofs.Shown.{IsRow}
 use Rattle.plan_evidence.proofs.Sounds.{all_sound}
-use Rattle.plan_forms.specs.Forms.{form, input_of, keys_of, pieces_of, makes_list, makes_element, gathers_all, gathers_groups}
+use Rattle.plan_forms.specs.Forms.{Form, form, input_of, keys_of, pieces_of, makes_list, makes_element, gathers_all, gathers_groups, makes_nothing}
 use Rattle.lazy_plan.specs.Bench.{BenchState, ops_of, documents, events_of, told, binding_at}
 use Rattle.lazy_binding.specs.declared.position.Position.{Position}
 use Rattle.lazy_value.specs.Origins.{makes}
@@ -47,84 +47,50 @@ makes_out (over i (concatenate ps out)) v m = inl (sym (eqb-true out v m))
 makes_out (over i (create_element l w out)) v m = inl (sym (eqb-true out v m))
 makes_out (tuple_destroy i w) v m = cc
 
--- an operator that makes a list of pieces makes it of its own pieces
-pieces_listed : (o : Operator) → form o ≡ makes_list → listing (shape_of o) ≡ Some (of_pieces (pieces_of o))
-pieces_listed (source s out) f = cc
-pieces_listed (get_descendants i start path out) f = cc
-pieces_listed (join l r tests) f = cc
-pieces_listed (over i (select t)) f = cc
-pieces_listed (over i (order_by w desc)) f = cc
-pieces_listed (over i (project keys)) f = cc
-pieces_listed (over i (group_by [] piece out)) f = cc
-pieces_listed (over i (group_by (k ∷ keys) piece out)) f = cc
-pieces_listed (over i (concatenate ps out)) f = refl
-pieces_listed (over i (create_element l w out)) f = cc
-pieces_listed (tuple_destroy i w) f = cc
+-- the list that an operator of this kind makes, if it makes one: of its own pieces, of all bindings of its input, or of those that agree by its keys
+abbrev list_by : Form → Operator → Option Listing
+list_by makes_list o = Some (of_pieces (pieces_of o))
+list_by makes_element o = None
+list_by gathers_all o = Some (of_group (input_of o) [] (slice_index_or (pieces_of o) 0 (text_piece [])))
+list_by gathers_groups o = Some (of_group (input_of o) (keys_of o) (slice_index_or (pieces_of o) 0 (text_piece [])))
+list_by makes_nothing o = None
 
--- a groupBy without keys gathers all bindings of its input
-all_listed : (o : Operator) → form o ≡ gathers_all → listing (shape_of o) ≡ Some (of_group (input_of o) [] (slice_index_or (pieces_of o) 0 (text_piece [])))
-all_listed (source s out) f = cc
-all_listed (get_descendants i start path out) f = cc
-all_listed (join l r tests) f = cc
-all_listed (over i (select t)) f = cc
-all_listed (over i (order_by w desc)) f = cc
-all_listed (over i (project keys)) f = cc
-all_listed (over i (group_by [] piece out)) f = refl
-all_listed (over i (group_by (k ∷ keys) piece out)) f = cc
-all_listed (over i (concatenate ps out)) f = cc
-all_listed (over i (create_element l w out)) f = cc
-all_listed (tuple_destroy i w) f = cc
-
--- a groupBy by keys gathers the bindings of its input that agree by them
-group_listed : (o : Operator) → form o ≡ gathers_groups → listing (shape_of o) ≡ Some (of_group (input_of o) (keys_of o) (slice_index_or (pieces_of o) 0 (text_piece [])))
-group_listed (source s out) f = cc
-group_listed (get_descendants i start path out) f = cc
-group_listed (join l r tests) f = cc
-group_listed (over i (select t)) f = cc
-group_listed (over i (order_by w desc)) f = cc
-group_listed (over i (project keys)) f = cc
-group_listed (over i (group_by [] piece out)) f = cc
-group_listed (over i (group_by (k ∷ keys) piece out)) f = refl
-group_listed (over i (concatenate ps out)) f = cc
-group_listed (over i (create_element l w out)) f = cc
-group_listed (tuple_destroy i w) f = cc
-
--- an operator that makes elements makes no list
-element_listed : (o : Operator) → form o ≡ makes_element → listing (shape_of o) ≡ None
-element_listed (source s out) f = cc
-element_listed (get_descendants i start path out) f = cc
-element_listed (join l r tests) f = cc
-element_listed (over i (select t)) f = cc
-element_listed (over i (order_by w desc)) f = cc
-element_listed (over i (project keys)) f = cc
-element_listed (over i (group_by [] piece out)) f = cc
-element_listed (over i (group_by (k ∷ keys) piece out)) f = cc
-element_listed (over i (concatenate ps out)) f = cc
-element_listed (over i (create_element l w out)) f = refl
-element_listed (tuple_destroy i w) f = cc
+-- an operator makes the list that its kind makes
+form_listed : (o : Operator) → listing (shape_of o) ≡ list_by (form o) o
+form_listed (source s out) = refl
+form_listed (get_descendants i start path out) = refl
+form_listed (join l r tests) = refl
+form_listed (over i (select t)) = refl
+form_listed (over i (order_by w desc)) = refl
+form_listed (over i (project keys)) = refl
+form_listed (over i (group_by [] piece out)) = refl
+form_listed (over i (group_by (k ∷ keys) piece out)) = refl
+form_listed (over i (concatenate ps out)) = refl
+form_listed (over i (create_element l w out)) = refl
+form_listed (tuple_destroy i w) = refl
 
 module _ (p : PlanValue) (valid : IsValid p) (typed : IsTyped p.ops) (op v : ℕ) (within : op < length p.ops) (m : makes (op_at p.ops op) v ≡ true) where
-  -- a variable's list is made as the operator does that makes its value
-  listed : (x : Option Listing) → listing (shape_of (op_at p.ops op)) ≡ x → list_of p.ops v ≡ x
-  listed x e = ap listing (made_by p valid typed v op within (makes_out (op_at p.ops op) v m)).is_maker ∙ e
+  -- a variable's list is the one that the operator makes which makes its value
+  listed : (f : Form) → form (op_at p.ops op) ≡ f → list_of p.ops v ≡ list_by f (op_at p.ops op)
+  listed f e =
+      ap listing (made_by p valid typed v op within (makes_out (op_at p.ops op) v m)).is_maker ∙ form_listed (op_at p.ops op) ∙ ap (λ k. list_by k (op_at p.ops op)) e
 
   -- the list that an operator makes of pieces
   pub list_of_pieces : form (op_at p.ops op) ≡ makes_list → list_of p.ops v ≡ Some (of_pieces (pieces_of (op_at p.ops op)))
-  list_of_pieces f = listed (Some (of_pieces (pieces_of (op_at p.ops op)))) (pieces_listed (op_at p.ops op) f)
+  list_of_pieces f = listed makes_list f
 
   -- the list that an operator makes of all bindings
   pub list_of_all : form (op_at p.ops op) ≡ gathers_all → list_of p.ops v ≡ Some (of_group (input_of (op_at p.ops op)) [] (slice_index_or (pieces_of (op_at p.ops op)) 0 (text_piece [])))
-  list_of_all f = listed (Some (of_group (input_of (op_at p.ops op)) [] (slice_index_or (pieces_of (op_at p.ops op)) 0 (text_piece [])))) (all_listed (op_at p.ops op) f)
+  list_of_all f = listed gathers_all f
 
   -- the list that an operator makes of a group
   pub list_of_group : form (op_at p.ops op) ≡ gathers_groups
       → list_of p.ops v ≡ Some (of_group (input_of (op_at p.ops op)) (keys_of (op_at p.ops op)) (slice_index_or (pieces_of (op_at p.ops op)) 0 (text_piece [])))
-  list_of_group f =
-      listed (Some (of_group (input_of (op_at p.ops op)) (keys_of (op_at p.ops op)) (slice_index_or (pieces_of (op_at p.ops op)) 0 (text_piece [])))) (group_listed (op_at p.ops op) f)
+  list_of_group f = listed gathers_groups f
 
   -- an element is no list
   pub list_of_element : form (op_at p.ops op) ≡ makes_element → list_of p.ops v ≡ None
-  list_of_element f = listed None (element_listed (op_at p.ops op) f)
+  list_of_element f = listed makes_element f
 
 -- BY THE BINDING
 

@@ -16,7 +16,6 @@ use Rattle.lazy_plan.specs.Bench.{ops_of}
 use Rattle.lazy_value.specs.Heights.{rest_rank, GivesRanked}
 use Rattle.lazy_value.proofs.Heights.{origin_ranked, gives_ranked}
 use Rattle.lazy_value.specs.Standing.{TurnIsIn}
-use Rattle.lazy_value.specs.Ways.{IsBelow}
 use Rattle.lazy_value.proofs.DownIn.{entered_in, option_weaker}
 use Rattle.lazy_value.proofs.down.down_element.Goals as goal
 
@@ -62,27 +61,17 @@ enter-requires g c =
     record { bench = (g.S.Sources.view c.args.s.now, c.requires.bench, (o.origin, end_rest (state_of (g.S.Sources.view c.args.s.now) c.args.bench.now) c.in_ok-end.end.value c.in_ok-end.ensures)) }
 
 pub returns-in-At-clause-list : goal.returns-in-At-clause-list
-returns-in-At-clause-list g c = λ n d u list holder below ps is.
+returns-in-At-clause-list g c =
     let st = state_of (g.S.Sources.view c.args.s.now) c.args.bench.now in
     let input = c.input_of-input.ensures ∙ ap (λ (p : Plan). input_at (plan_value p).ops c.args.op) c.plan.ensures in
-    let o = c.in_ok-origin.ensures (g.S.Sources.view c.args.s.now) c.requires.bench (subst (λ (m : ℕ). IsCursor st m c.args.at.now) (sym input) c.requires.stands.cursor) in
-    let own = ap (λ (p : Plan). pieces_of (op_at (plan_value p).ops c.args.op)) (sym c.plan-2.ensures) ∙ c.element_list-list.ensures in
-    let turn = entered_in st c.input_of-input.result c.args.at.now c.element_list-list.result c.in_ok-origin.origin o c.in_ok-end.end.value c.in_ok-end.ensures c.in_ok-enter.field-0
-    (c.in_ok-enter.ensures.list (g.S.Sources.view c.args.s.now) c.requires.bench)
-    n d u list holder (subst (λ (m : ℕ). IsBelow st n d m c.args.at.now) (sym input) below) _ ps own is in
-    subst (TurnIsIn st n d list) c.in-At.is turn
+    let turn = entered_in st c.args.op c.element_list-list.result c.input_of-input.result c.args.at.now c.in_ok-origin.origin c.in_ok-end.end.value (ap (λ (p : Plan). pieces_of (op_at (plan_value p).ops c.args.op)) (sym c.plan-2.ensures) ∙ c.element_list-list.ensures) input (c.in_ok-origin.ensures (g.S.Sources.view c.args.s.now) c.requires.bench (subst (λ (m : ℕ). IsCursor st m c.args.at.now) (sym input) c.requires.stands.cursor)) c.in_ok-end.ensures c.in_ok-enter.field-0 (c.in_ok-enter.ensures.list (g.S.Sources.view c.args.s.now) c.requires.bench) in
+    λ n d u list holder below ps is. subst (TurnIsIn st n d list) c.in-At.is (turn n d u list holder below ps is)
 
 pub returns-clause-list : goal.returns-clause-list
 returns-clause-list g c =
-    if_ok c.first_node.result _ _
-    (λ x h. option_weaker x _ _
-    (λ site k n d u list holder below ps is.
     let st = state_of (g.S.Sources.view c.args.s.now) c.args.bench.now in
     let input = c.input_of-input.ensures ∙ ap (λ (p : Plan). input_at (plan_value p).ops c.args.op) c.plan.ensures in
-    let o = c.in_ok-origin.ensures (g.S.Sources.view c.args.s.now) c.requires.bench (subst (λ (m : ℕ). IsCursor st m c.args.at.now) (sym input) c.requires.stands.cursor) in
-    let own = ap (λ (p : Plan). pieces_of (op_at (plan_value p).ops c.args.op)) (sym c.plan-2.ensures) ∙ c.element_list-list.ensures in
-    let turn = entered_in st c.input_of-input.result c.args.at.now c.element_list-list.result c.in_ok-origin.origin o c.in_ok-end.end.value c.in_ok-end.ensures c.in_ok-enter.field-0
-    (c.in_ok-enter.ensures.list (g.S.Sources.view c.args.s.now) c.requires.bench)
-    n d u list holder (subst (λ (m : ℕ). IsBelow st n d m c.args.at.now) (sym input) below) _ ps own is in
-    k n d list holder (subst (TurnIsIn st n d list) c.in-On.is turn)) h)
+    let turn = entered_in st c.args.op c.element_list-list.result c.input_of-input.result c.args.at.now c.in_ok-origin.origin c.in_ok-end.end.value (ap (λ (p : Plan). pieces_of (op_at (plan_value p).ops c.args.op)) (sym c.plan-2.ensures) ∙ c.element_list-list.ensures) input (c.in_ok-origin.ensures (g.S.Sources.view c.args.s.now) c.requires.bench (subst (λ (m : ℕ). IsCursor st m c.args.at.now) (sym input) c.requires.stands.cursor)) c.in_ok-end.ensures c.in_ok-enter.field-0 (c.in_ok-enter.ensures.list (g.S.Sources.view c.args.s.now) c.requires.bench) in
+    if_ok c.first_node.result _ _
+    (λ x h. option_weaker x _ _ (λ site k n d u list holder below ps is. k n d list holder (subst (TurnIsIn st n d list) c.in-On.is (turn n d u list holder below ps is))) h)
     c.first_node.ensures.list
