@@ -6,6 +6,8 @@ use Rattle.lxp_core.specs.View.{View}
 use Rattle.node_text.specs.Node.{LevelValue}
 use Rattle.plan_core.specs.declared.plan.Piece.TheVariants.{Var as var_piece}
 use Rattle.plan_core.specs.Events.{first_row}
+use Rattle.plan_core.specs.Tolled.{Tolled, ends, is_item, trees_after, trees_from}
+use Rattle.plan_core.specs.TolledRows.{TolledRow, piece_items}
 use Rattle.plan_core.specs.Valid.{a_list, kinds}
 use Rattle.plan_evidence.specs.Evidence.{evidence_vars, places_of}
 use Rattle.plan_evidence.specs.Named.{maker, Listing, element_list, list_of, outer_of, Reached}
@@ -16,7 +18,7 @@ use Rattle.lazy_binding.specs.declared.position.Position.{Position}
 use Rattle.lazy_evidence.specs.Below.{nodes_at}
 use Rattle.lazy_plan.specs.declared.bench.Bench.{Bench}
 use Rattle.lazy_plan.specs.Bench.{BenchState, state_of, IsBenchOf, ops_of, documents, events_of, told, binding_at}
-use Rattle.lazy_value.specs.Ids.{IsRest}
+use Rattle.lazy_value.specs.Ids.{IsRest, rest_trees}
 use Rattle.lazy_value.specs.Standing.{remains, IsHolder, hand_op, hand_at, IsStanding}
 use Rattle.lazy_value.specs.declared.ids.Head.{Head}
 use Rattle.lazy_value.specs.declared.ids.Rest.{Rest, End, Pieces', Members', Group'}
@@ -64,3 +66,9 @@ LevelsOpen =
     → (rests : List Rest) (q : List ℕ) (n : ℕ) (c : Position) (v : ℕ) (list : Listing) → IsOpen st rests q n c v list
     → (head : Head) (r : Rest) → IsRest st r → (s : IsStanding st n c list head r) → (j : ℕ) → IsIndex (documents st) (binding_at st n c) v (remains st r) j
     → Opens (documents st) (ops_of st) (levels_at st (r ∷ rests)) (q ++ j ∷ []) (reached_at st (hand_op st n r) (hand_at c r)) s.piece
+
+-- where a variable's list in a binding is these trees, and what is after a node is what is after the tree at an index of them, the node is at that index
+abbrev pub RestsTellIndexes : Type 0
+RestsTellIndexes =
+    (st : BenchState) (row : TolledRow) (v : ℕ) (f : Tolled) (r : Rest) (j : ℕ) → piece_items (documents st) (var_piece v) row (ends 0) ≡ f
+    → rest_trees st r ≡ trees_after (trees_from j f) → IsTrue (is_item (trees_from j f)) → IsIndex (documents st) row v (remains st r) j

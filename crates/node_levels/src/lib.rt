@@ -3,4 +3,4 @@
 
 mod law;
 
-pub use law::levels_open;
+pub use law::{levels_open, rests_tell_indexes};
