@@ -64,7 +64,7 @@ fn mount(alloc: Global, parts: &[Part<'_>], spec: &SourceSpec) -> Result<Mount, 
             Some(text) => csv(alloc, text, spec, columns.as_slice()),
             None => Ok(Mount::Absent),
         },
-        SourceKind::Remote { .. } => Ok(Mount::Absent),
+        SourceKind::Remote { .. } | SourceKind::View { .. } => Ok(Mount::Absent),
     }
 }
 

@@ -16,6 +16,7 @@ pub enum Form {
     Csv,
     Table,
     Remote,
+    View,
 }
 
 /// What stands before the file of a line.
@@ -65,6 +66,8 @@ fn read_form(word: &[u8]) -> Option<Form>
         Some(Form::Table)
     } else if word == b"remote".as_slice() {
         Some(Form::Remote)
+    } else if word == b"view".as_slice() {
+        Some(Form::View)
     } else {
         None
     }

@@ -7,7 +7,7 @@ use Rattle.bracket_text.specs.Grammar.{SpellsShallow}
 use Rattle.csv_wrap.specs.Csv.{IsFile}
 use Rattle.csv_wrap.specs.Rows.{file_tree}
 use Rattle.mix_catalog.specs.declared.source.SourceKind.{SourceKind}
-use Rattle.mix_catalog.specs.declared.source.SourceKind.TheVariants.{Bracket, Csv, Table, Remote}
+use Rattle.mix_catalog.specs.declared.source.SourceKind.TheVariants.{Bracket, Csv, Table, Remote, View}
 use Rattle.mix_catalog.specs.declared.source.SourceSpec.{SourceSpec}
 use Rattle.mix_catalog.specs.Grammar.{file_of}
 use Rattle.far_keep.specs.declared.far_source.FarSource.{FarSource}
@@ -22,26 +22,29 @@ SpellsTree text t = IsUtf8 text × SpellsShallow text t
 abbrev pub HoldsRows : List ℕ → List (List ℕ) → List ℕ → LabelledTree → Type 0
 HoldsRows name columns text t = (rows : List (List (List ℕ))) × IsFile text columns rows × (t ≡ file_tree name columns rows)
 
--- whether a source of a kind is a file that is read whole: a table and a source of another machine are none
+-- whether a source of a kind is a file that holds its document, read whole: a table, a source of another machine and a view are none
 abbrev pub is_file_of : SourceKind → Bool
 is_file_of (Bracket file deep) = true
 is_file_of (Csv file columns) = true
 is_file_of (Table file table key columns) = false
 is_file_of (Remote replies requests number) = false
+is_file_of (View file) = false
 
 -- the source of another machine that a source of a kind is
 abbrev pub far_in : SourceKind → Option FarSource
 far_in (Bracket file deep) = None
 far_in (Csv file columns) = None
 far_in (Table file table key columns) = None
+far_in (View file) = None
 far_in (Remote replies requests number) = Some (record { replies = replies; requests = requests; number = number })
 
--- the tree that a text stands for as the file of a source of this name and kind; that of a table or of another machine is not read whole
+-- the tree that a text stands for as the file of a source of this name and kind; that of a table, of another machine or of a view stands for none
 abbrev pub StandsFor : List ℕ → SourceKind → List ℕ → LabelledTree → Type 0
 StandsFor name (Bracket file deep) = SpellsTree
 StandsFor name (Csv file columns) = HoldsRows name columns
 StandsFor name (Table file table key columns) = λ text t. ⊥
 StandsFor name (Remote replies requests number) = λ text t. ⊥
+StandsFor name (View file) = λ text t. ⊥
 
 -- a fault says why a text stands for no tree as the file of a source of a given kind
 abbrev pub StandsForNone : SourceKind → List ℕ → FileFault → Type 0
@@ -49,13 +52,15 @@ StandsForNone (Bracket file deep) = IsNoTree
 StandsForNone (Csv file columns) = IsNoTable columns
 StandsForNone (Table file table key columns) = λ text fault. ⊥
 StandsForNone (Remote replies requests number) = λ text fault. ⊥
+StandsForNone (View file) = λ text fault. ⊥
 
--- whether a source of a kind gives the children of a node as whole subtrees: rows are given so; of another machine's nothing is said
+-- whether a source of a kind gives the children of a node as whole subtrees: rows are given so; of another machine's, and of a view's, nothing is said
 abbrev pub is_deep : SourceKind → Bool
 is_deep (Bracket file deep) = deep
 is_deep (Csv file columns) = true
 is_deep (Table file table key columns) = true
 is_deep (Remote replies requests number) = false
+is_deep (View file) = false
 
 -- a file was read whole, and its text stands for a tree by what texts of its kind stand for
 pub record IsDocument (Stands : List ℕ → LabelledTree → Type 0) (files : FilesView) (path : List ℕ) (t : LabelledTree) : Type 0 where

@@ -122,7 +122,7 @@ pub fn load_script<F: Files>(alloc: Global, files: &mut F, path: &str) -> Result
     }
 }
 
-/// The catalog that a file spells. An error is as with `mount_tree`.
+/// The sources of the catalog that a file spells, but for its views. An error is as with `mount_tree`.
 pub fn load_catalog<F: Files>(alloc: Global, files: &mut F, path: &str) -> Result<Catalog, Stop>
     ensures keeps { KeepsFiles (F.view files.old) (F.view files.new) }
     ensures others { ReadsOnly path.now (F.view files.old) (F.view files.new) }
@@ -132,7 +132,7 @@ pub fn load_catalog<F: Files>(alloc: Global, files: &mut F, path: &str) -> Resul
 {
     let bytes = load(alloc, files, path)?;
     match read_catalog(alloc, &bytes) {
-        Ok(catalog) => Ok(catalog),
+        Ok(catalog) => Ok(catalog.base(alloc)?),
         Err(fault) => Err(refused(alloc, path, FileFault::Catalog(fault))),
     }
 }

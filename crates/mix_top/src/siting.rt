@@ -33,9 +33,10 @@ fn read_site(alloc: Global, spec: &SourceSpec) -> Result<Site, AllocError>
                 number,
             }))
         }
-        SourceKind::Bracket { .. } | SourceKind::Csv { .. } | SourceKind::Table { .. } => {
-            Ok(Site::Here)
-        }
+        SourceKind::Bracket { .. }
+        | SourceKind::Csv { .. }
+        | SourceKind::Table { .. }
+        | SourceKind::View { .. } => Ok(Site::Here),
     }
 }
 
