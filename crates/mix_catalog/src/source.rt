@@ -47,6 +47,10 @@ pub enum SourceKind {
         requests: Label,
         number: u32,
     },
+    /// A JSON file. A fill gives some children of a node.
+    Json {
+        file: Label,
+    },
     /// A view in a file, over the catalog's sources of the other kinds. A fill gives one node.
     View {
         file: Label,
@@ -100,6 +104,9 @@ impl SourceKind {
                 requests: requests.copy(alloc)?,
                 number: *number,
             }),
+            SourceKind::Json { file } => Ok(SourceKind::Json {
+                file: file.copy(alloc)?,
+            }),
             SourceKind::View { file } => Ok(SourceKind::View {
                 file: file.copy(alloc)?,
             }),
@@ -115,6 +122,7 @@ impl SourceKind {
             SourceKind::Csv { file, .. } => file,
             SourceKind::Table { file, .. } => file,
             SourceKind::Remote { replies, .. } => replies,
+            SourceKind::Json { file } => file,
             SourceKind::View { file } => file,
         }
     }
@@ -134,7 +142,7 @@ impl SourceKind {
             SourceKind::Bracket { .. } => 0,
             SourceKind::Csv { columns, .. } => columns.as_slice().len(),
             SourceKind::Table { columns, .. } => columns.as_slice().len(),
-            SourceKind::Remote { .. } | SourceKind::View { .. } => 0,
+            SourceKind::Remote { .. } | SourceKind::Json { .. } | SourceKind::View { .. } => 0,
         }
     }
 
@@ -146,7 +154,7 @@ impl SourceKind {
             SourceKind::Bracket { .. } => true,
             SourceKind::Csv { columns, .. } => are_apart(columns.as_slice()),
             SourceKind::Table { columns, .. } => are_named_apart(columns.as_slice()),
-            SourceKind::Remote { .. } | SourceKind::View { .. } => true,
+            SourceKind::Remote { .. } | SourceKind::Json { .. } | SourceKind::View { .. } => true,
         }
     }
 }

@@ -2,7 +2,7 @@
 use Rattle.std.proofs.Common.{◌≡◌, ◌⊎◌, inl, inr, true, false, Some, None, refl}
 use Rattle.far_keep.specs.declared.far_source.FarSource.{FarSource}
 use Rattle.mix_catalog.specs.declared.source.SourceKind.{SourceKind}
-use Rattle.mix_catalog.specs.declared.source.SourceKind.TheVariants.{Bracket, Csv, Table, Remote, View}
+use Rattle.mix_catalog.specs.declared.source.SourceKind.TheVariants.{Bracket, Csv, Table, Remote, Json, View}
 use Rattle.mix_catalog.specs.Grammar.{is_view}
 use Rattle.table_keep.specs.Views.{Declared}
 use Rattle.table_wrap.specs.Document.{declared_in}
@@ -18,6 +18,7 @@ each_is_one (Bracket file deep) = inl refl
 each_is_one (Csv file columns) = inl refl
 each_is_one (Table file table key columns) = inr (inl (record { file = file; table = table; key = key; columns = columns }, refl))
 each_is_one (Remote replies requests number) = inr (inr (inl (record { replies = replies; requests = requests; number = number }, refl)))
+each_is_one (Json file) = inl refl
 each_is_one (View file) = inr (inr (inr refl))
 
 -- a file that is read whole declares no table and is at no other machine
@@ -26,6 +27,7 @@ file_is_apart (Bracket file deep) h = (refl, refl)
 file_is_apart (Csv file columns) h = (refl, refl)
 file_is_apart (Table file table key columns) h = absurd (let z : false ≡ true = h in cc)
 file_is_apart (Remote replies requests number) h = absurd (let z : false ≡ true = h in cc)
+file_is_apart (Json file) h = (refl, refl)
 file_is_apart (View file) h = absurd (let z : false ≡ true = h in cc)
 
 -- a table is no file that is read whole, and is at no other machine
@@ -34,6 +36,7 @@ table_is_apart (Bracket file deep) d h = absurd (let z : None ≡ Some d = h in 
 table_is_apart (Csv file columns) d h = absurd (let z : None ≡ Some d = h in cc)
 table_is_apart (Table file table key columns) d h = (λ e. (let z : false ≡ true = e in cc), refl)
 table_is_apart (Remote replies requests number) d h = absurd (let z : None ≡ Some d = h in cc)
+table_is_apart (Json file) d h = absurd (let z : None ≡ Some d = h in cc)
 table_is_apart (View file) d h = absurd (let z : None ≡ Some d = h in cc)
 
 -- a source of another machine is no file that is read whole, and declares no table
@@ -42,6 +45,7 @@ far_is_apart (Bracket file deep) far h = absurd (let z : None ≡ Some far = h i
 far_is_apart (Csv file columns) far h = absurd (let z : None ≡ Some far = h in cc)
 far_is_apart (Table file table key columns) far h = absurd (let z : None ≡ Some far = h in cc)
 far_is_apart (Remote replies requests number) far h = (λ e. (let z : false ≡ true = e in cc), refl)
+far_is_apart (Json file) far h = absurd (let z : None ≡ Some far = h in cc)
 far_is_apart (View file) far h = absurd (let z : None ≡ Some far = h in cc)
 
 -- a view declares no table and is at no other machine
@@ -50,4 +54,5 @@ view_is_apart (Bracket file deep) h = absurd (let z : false ≡ true = h in cc)
 view_is_apart (Csv file columns) h = absurd (let z : false ≡ true = h in cc)
 view_is_apart (Table file table key columns) h = absurd (let z : false ≡ true = h in cc)
 view_is_apart (Remote replies requests number) h = absurd (let z : false ≡ true = h in cc)
+view_is_apart (Json file) h = absurd (let z : false ≡ true = h in cc)
 view_is_apart (View file) h = (refl, refl)

@@ -36,6 +36,7 @@ fn read_site(alloc: Global, spec: &SourceSpec) -> Result<Site, AllocError>
         SourceKind::Bracket { .. }
         | SourceKind::Csv { .. }
         | SourceKind::Table { .. }
+        | SourceKind::Json { .. }
         | SourceKind::View { .. } => Ok(Site::Here),
     }
 }

@@ -2,7 +2,7 @@
 use Rattle.std.specs.Prelude.{ℕ, true, List, map, Option, Some, None, slice_get}
 use Rattle.mix_catalog.specs.declared.column.Column.{Column}
 use Rattle.mix_catalog.specs.declared.source.SourceKind.{SourceKind}
-use Rattle.mix_catalog.specs.declared.source.SourceKind.TheVariants.{Bracket, Csv, Table, Remote, View}
+use Rattle.mix_catalog.specs.declared.source.SourceKind.TheVariants.{Bracket, Csv, Table, Remote, Json, View}
 use Rattle.mix_catalog.specs.declared.source.SourceSpec.{SourceSpec}
 use Rattle.browse_visit.specs.declared.visit.TableColumn.{TableColumn}
 use Rattle.browse_visit.specs.Layouts.{Layout, no_trees, a_tree, any_rows, any_trees}
@@ -26,6 +26,7 @@ kind_layout name (Bracket file deep) = any_trees
 kind_layout name (Csv file columns) = rows_layout name (map field_column columns)
 kind_layout name (Table file table key columns) = rows_layout name (map declared_column columns)
 kind_layout name (Remote replies requests number) = any_trees
+kind_layout name (Json file) = any_trees
 kind_layout name (View file) = any_trees
 
 -- how the documents of a source are laid out
