@@ -20,12 +20,6 @@ use Rattle.plan_evidence.proofs.Makers.{number_of}
 use Rattle.plan_evidence.proofs.NamedNodes.{list_value}
 use Rattle.plan_evidence.proofs.Shown.{IsLow, IsRow, IsListOf}
 
--- a filter through which all pass leaves all
-pub filter_all : (test : TolledRow → Bool) → ((r : TolledRow) → test r ≡ true) → (rows : List TolledRow) → filter test rows ≡ rows
-filter_all test h [] = refl
-filter_all test h (r ∷ rows) =
-    ap (λ (w : Bool). cond w (r ∷ filter test rows) (filter test rows)) (h r) ∙ ap (λ (rs : List TolledRow). r ∷ rs) (filter_all test h rows)
-
 module _ (p : PlanValue) (valid : IsValid p) (typed : IsTyped p.ops) (docs : Documents) (n : ℕ) (here : Reached) (sound : IsRow docs p.ops n here.row) where
   -- what a list uses is bound, and made by operators below a number
   record IsListed (list : Listing) : Type 0 where
