@@ -319,7 +319,7 @@ module _ (a b : BenchState) (k : KeepsBench a b) (valid : IsValid (plan_value a.
       (subst (λ (q : List ℕ). StandsInSource b s (Some q) x) there child)
   child_led (Item (Whole s t) rest) above top p site led is x child h =
       let kids = ap (λ (f : Tolled). trees_below (tolled_at f p)) document_later ∙ sym (below_paid (tolled_at (tolled_document (documents a) (ops_of a)) p)) ∙ sym (ap trees_below is)
-          ∙ sym (head_trees-kept a b k (Whole s t) site.0) in
+      ∙ sym (head_trees-kept a b k (Whole s t) site.0) in
       whole_led s t rest.value above p led site.0 kids x child
   child_led (Item (Built op at) rest) above top p site led is x child h = built_led op at rest.value above p led x child h.node (h.here y) (h.tree y) None
   child_led (Item (Leaf s t) rest) above top p site led is x child h = (let z = h.tree y in cc)

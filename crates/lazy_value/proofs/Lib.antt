@@ -25,6 +25,7 @@ pub mod Passing
 pub mod PieceTurns
 pub mod PiecesIn
 pub mod Placing
+pub mod Pushed
 pub mod Reaching
 pub mod RowLabels
 pub mod Saying

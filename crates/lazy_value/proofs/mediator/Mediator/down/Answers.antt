@@ -57,4 +57,4 @@ returns-in_ok-above-in-Some-clause-place g c =
     let node = child_node a b kept c.args.n.now m c.requires.node list there.node above.rests above.top in
     let known = c.requires.mediator in
     λ p h y. down_some a b kept (c.tolled_is_document.ensures (plan_value (plan_of c.args.self.now)) known.valid (documents a)) c.args.n.now p h m there node
-        (child_above a b kept c.args.n.now m known.valid known.fixed.typed known.bench p h list there above.rests above.top y) y
+    (child_above a b kept c.args.n.now m known.valid known.fixed.typed known.bench p h list there above.rests above.top y) y
