@@ -1,6 +1,6 @@
 -- What is kept above an identifier leads to the same place after a call.
-use Rattle.std.proofs.Common.{◌≡◌, ◌≤◌, ◌<◌, ◌+◌, ℕ, suc, List, [], ◌∷◌, ◌++◌, length, refl, ◌∙◌, sym, ap, subst}
-use Rattle.std.specs.Prelude.{Option, Some, None, MatchOption}
+use Rattle.std.proofs.Common.{◌≡◌, ◌≤◌, ℕ, List, ◌++◌, ◌∙◌, sym, ap, subst}
+use Rattle.std.specs.Prelude.{Option, Some, None}
 use Rattle.std.specs.List.{AllByRecursion}
 use Rattle.mix_base.proofs.Firsts.{each_weaker}
 use Rattle.mix_base.specs.Events.{found}
@@ -11,23 +11,22 @@ use Rattle.plan_core.specs.declared.plan.Piece.{Piece}
 use Rattle.plan_core.specs.declared.plan.Piece.TheVariants.{Var as var_piece, LabelOf as label_piece, Text as text_piece}
 use Rattle.plan_core.specs.Events.{RowEvents, first_row, tolled_document}
 use Rattle.plan_core.specs.Plans.{Operator}
-use Rattle.plan_core.specs.Tolled.{Tolled, ends, trees_below, tolled_at}
-use Rattle.plan_core.specs.TolledRows.{TolledRow, TolledValue, of_source, element, tolled_value, piece_items}
-use Rattle.plan_evidence.specs.Named.{Listing, count_trees}
-use Rattle.plan_evidence.specs.Remains.{Remains, StandsAt, IsIndex, trees_left}
+use Rattle.plan_core.specs.Tolled.{trees_below, tolled_at}
+use Rattle.plan_core.specs.TolledRows.{TolledRow, of_source, element, tolled_value}
+use Rattle.plan_evidence.specs.Named.{Listing}
+use Rattle.plan_evidence.specs.Remains.{Remains, StandsAt, IsIndex}
 use Rattle.plan_forms.specs.Forms.{input_at, label_in, makes_element}
 use Rattle.lazy_binding.specs.declared.position.Position.{Position}
 use Rattle.lazy_binding.specs.World.{World, place_in}
-use Rattle.lazy_plan.specs.Bench.{BenchState, ops_of, documents, events_of, size_of, node_at, IsCursor, IsSpotAt, binding_at, KeepsBench}
+use Rattle.lazy_plan.specs.Bench.{BenchState, ops_of, documents, IsCursor, IsSpotAt, binding_at, KeepsBench}
 use Rattle.lazy_value.specs.Above.{HasTop, IsItemAt, IsInsideAt, IsLedTo}
-use Rattle.lazy_value.specs.Ids.{element_trees, head_trees, IsRest, IsSite}
+use Rattle.lazy_value.specs.Ids.{head_trees, IsRest, IsSite}
 use Rattle.lazy_value.specs.Levels.{IsOpen, of_root, of_member}
-use Rattle.lazy_value.specs.Origins.{IsOriginOf, IsTreeOf, IsTreeOfPiece}
+use Rattle.lazy_value.specs.Origins.{IsTreeOf, IsTreeOfPiece}
 use Rattle.lazy_value.specs.Sizes.{extent}
 use Rattle.lazy_value.specs.Standing.{remains, IsHolder, hand_op, hand_at, IsStanding}
 use Rattle.lazy_value.specs.declared.ids.Head.{Head}
 use Rattle.lazy_value.specs.declared.ids.Head.TheVariants.{Whole, Built, Leaf, Text}
-use Rattle.lazy_value.specs.declared.ids.Origin.TheVariants.{Node as node_origin, Element as element_origin}
 use Rattle.lazy_value.specs.declared.ids.Rest.{Rest}
 use Rattle.lazy_value.specs.declared.ids.Site.{Site}
 use Rattle.lazy_value.specs.declared.ids.Site.TheVariants.{Root, Inside, Item}

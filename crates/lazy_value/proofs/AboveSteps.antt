@@ -1,7 +1,7 @@
 -- What is above a node that a step reached leads to the place that was asked for.
-use Rattle.std.proofs.Common.{◌≡◌, ◌<◌, ◌+◌, ℕ, zero, suc, true, List, [], ◌∷◌, ◌++◌, append_assoc, length, length-append, Option, Some, None, refl, ◌∙◌, sym, ap, subst, arith}
+use Rattle.std.proofs.Common.{◌≡◌, ◌<◌, ◌+◌, ℕ, suc, true, List, [], ◌∷◌, ◌++◌, append_assoc, length, length-append, Option, Some, None, refl, ◌∙◌, sym, ap, subst, arith}
 use Rattle.std.specs.Prelude.{IsTrue, MatchOption, option_map}
-use Rattle.std.specs.List.{AllByRecursion, last_or}
+use Rattle.std.specs.List.{AllByRecursion}
 use Rattle.mix_base.proofs.Choices.{some_is}
 use Rattle.mix_base.specs.Events.{found}
 use Rattle.mix_tree.specs.Nodes.{Documents}
@@ -14,23 +14,22 @@ use Rattle.plan_core.specs.Events.{first_row, events, element_alone, tolled_dest
 use Rattle.plan_core.specs.declared.plan.Plan.{Plan}
 use Rattle.plan_core.specs.PlanMade.{plan_value}
 use Rattle.plan_core.specs.Tolled.{Tolled, ends, is_item, trees_below, trees_after, paid, tolled_at}
-use Rattle.plan_core.specs.TolledRows.{TolledRow, TolledValue, of_source, element, trees, tolled_value, piece_items}
+use Rattle.plan_core.specs.TolledRows.{TolledRow, TolledValue, element, tolled_value, piece_items}
 use Rattle.plan_core.specs.Typed.{IsTyped}
 use Rattle.plan_core.specs.Valid.{a_list, an_element, kinds, IsValid}
 use Rattle.plan_evidence.proofs.Counts.{piece_count}
 use Rattle.plan_evidence.proofs.Makers.{made_by}
-use Rattle.plan_evidence.proofs.Shown.{count-plain, IsElementIn, IsListIn, IsRow}
+use Rattle.plan_evidence.proofs.Shown.{count-plain, IsElementIn}
 use Rattle.plan_evidence.proofs.TreeLists.{count}
-use Rattle.plan_evidence.specs.Named.{maker, Listing, element_list, list_of, outer_of, count_trees}
-use Rattle.plan_evidence.specs.Remains.{IsIndex, trees_left}
+use Rattle.plan_evidence.specs.Named.{Listing, element_list, outer_of, count_trees}
+use Rattle.plan_evidence.specs.Remains.{trees_left}
 use Rattle.plan_forms.proofs.Lasts.{valid_ends, last_is}
-use Rattle.plan_forms.specs.Forms.{input_at, makes_element, pieces_of}
 use Rattle.lazy_binding.specs.Bench.{IsBench}
 use Rattle.lazy_binding.specs.declared.position.Position.{Position}
 use Rattle.lazy_binding.specs.World.{place_in}
 use Rattle.lazy_plan.specs.Bench.{BenchState, ops_of, documents, events_of, told, IsSpotAt, binding_at, KeepsBench}
-use Rattle.lazy_value.specs.Above.{rests_above, rests_below, rests_with, top_above, top_below, top_of, top_with, HasTop, IsItemAt, IsInsideAt, IsLedTo}
-use Rattle.lazy_value.specs.Ids.{here, head_trees, element_trees, rest_trees, IsHead, IsRest, IsSite}
+use Rattle.lazy_value.specs.Above.{rests_above, rests_below, rests_with, top_above, top_below, top_with, HasTop, IsItemAt, IsInsideAt, IsLedTo}
+use Rattle.lazy_value.specs.Ids.{here, head_trees, element_trees, rest_trees, IsRest, IsSite}
 use Rattle.lazy_value.specs.Levels.{HasList, IsOpen, of_root, of_member}
 use Rattle.lazy_value.specs.Origins.{IsOriginOf, IsTreeOfPiece}
 use Rattle.lazy_value.specs.Standing.{remains, IsHolder, hand_op, hand_at, SiteStandsIn, StandsInSource, ChildStandsIn, SiteChildIn, SiteNextIn, IsInOuter}
@@ -50,7 +49,6 @@ use Rattle.lazy_value.proofs.Indexes.{below_paid, after_paid, count_from, rest_l
 use Rattle.lazy_value.proofs.Keep.{ops_kept, head_trees-kept, IsRest-kept}
 use Rattle.lazy_value.proofs.Listings.{holder_sound, makes_out}
 use Rattle.lazy_value.proofs.Opening.{hand_holder}
-use Rattle.lazy_value.proofs.StandingKept.{IsHolder-kept}
 
 -- WHATEVER IS TOLD
 

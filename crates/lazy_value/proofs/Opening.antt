@@ -1,5 +1,5 @@
 -- The levels by what is left after each element on the way to a node open the document to it.
-use Rattle.std.proofs.Common.{◌≡◌, inl, inr, ℕ, zero, suc, Bool, true, false, cond, List, [], ◌∷◌, ◌++◌, Some, None, length, length-append, refl, ◌∙◌, sym, ap, subst, arith}
+use Rattle.std.proofs.Common.{◌≡◌, inl, inr, ℕ, zero, suc, Bool, true, false, cond, List, [], ◌∷◌, ◌++◌, Some, None, refl, ◌∙◌, ap, subst}
 use Rattle.std.specs.Prelude.{IsTrue, slice_get}
 use Rattle.std.specs.List.{filter}
 use Rattle.mix_base.proofs.Choices.{none_some, some_is}
@@ -18,7 +18,7 @@ use Rattle.plan_evidence.specs.Held.{node_values, AreOf}
 use Rattle.plan_evidence.specs.Laws.{SomeBinding}
 use Rattle.plan_evidence.specs.Named.{Listing, members}
 use Rattle.plan_evidence.specs.Opened.{Enters, Opens, of_outer, of_element}
-use Rattle.plan_evidence.specs.Remains.{Remains, HasTuple, IsIndex, IsListIn, IsToldBy, StandsAt, at_piece, at_member, levels_of, nothing_left, members_left}
+use Rattle.plan_evidence.specs.Remains.{Remains, HasTuple, IsIndex, IsListIn, IsToldBy, StandsAt, at_member, levels_of, members_left}
 use Rattle.plan_evidence.proofs.Aparts.{at_index}
 use Rattle.plan_evidence.proofs.NodeValues.{keys_alike}
 use Rattle.plan_evidence.proofs.Leading.{remains_lead}

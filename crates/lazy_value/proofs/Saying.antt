@@ -1,25 +1,25 @@
 -- What the text of an identifier says names the node at its place.
-use Rattle.std.proofs.Common.{◌≡◌, ◌<◌, ℕ, zero, suc, true, List, [], ◌∷◌, ◌++◌, append-nil, append_assoc, length, length-append, drop, Option, Some, None, refl, ◌∙◌, sym, ap, subst, arith}
+use Rattle.std.proofs.Common.{◌≡◌, ◌<◌, ℕ, true, List, [], ◌∷◌, ◌++◌, append-nil, length, drop, Option, Some, None, refl, ◌∙◌, sym, ap, subst, arith}
 use Rattle.std.specs.Prelude.{IsTrue, is_some}
 use Rattle.std.specs.List.{AllByRecursion}
 use Rattle.std.proofs.lemmas.List.{drop_at}
 use Rattle.mix_tree.specs.Forest.{Forest, LabelledTree, none, tree, alone, first_label, first_kids, from}
 use Rattle.mix_tree.specs.Place.{has_place, trees_at}
-use Rattle.node_text.specs.Node.{LevelValue, level, node, ArePlaces, IsFormed}
+use Rattle.node_text.specs.Node.{LevelValue, node, ArePlaces, IsFormed}
 use Rattle.plan_core.specs.declared.plan.Piece.{Piece}
 use Rattle.plan_core.specs.declared.plan.Piece.TheVariants.{Var as var_piece, LabelOf as label_piece, Text as text_piece}
 use Rattle.plan_core.proofs.Plains.{plain_charged}
 use Rattle.plan_core.specs.Events.{tolled_document}
 use Rattle.plan_core.specs.PlanMade.{plan_value}
 use Rattle.plan_core.specs.Tolled.{Tolled, is_item, trees_below, charged, plain, trees_from, tolled_at}
-use Rattle.plan_core.specs.TolledRows.{TolledValue, of_source, element, trees, tolled_value}
+use Rattle.plan_core.specs.TolledRows.{TolledValue}
 use Rattle.plan_core.specs.Typed.{IsTyped}
 use Rattle.plan_core.specs.Valid.{IsValid}
 use Rattle.plan_evidence.proofs.EachNamed.{places_formed}
 use Rattle.plan_evidence.proofs.Opened.{opened_named}
 use Rattle.plan_evidence.specs.Named.{Listing, Ends, IsBelow, Names, NamesBy}
 use Rattle.plan_evidence.specs.Opened.{Opens}
-use Rattle.plan_evidence.specs.Remains.{Remains, levels_through, levels_of, numbers_in}
+use Rattle.plan_evidence.specs.Remains.{levels_through, levels_of, numbers_in}
 use Rattle.plan_forms.specs.Forms.{input_at}
 use Rattle.mix_tree.specs.Nodes.{label_at, kids_at}
 use Rattle.tree_buffer.specs.declared.spot.Spot.{Spot}

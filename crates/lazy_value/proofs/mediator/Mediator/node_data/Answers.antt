@@ -1,12 +1,10 @@
-use Rattle.std.proofs.Common.{◌≡◌, ℕ, List, ◌∙◌, sym, ap, subst}
-use Rattle.node_text.specs.Node.{LevelValue, NodeValue, node, IsFormed}
+use Rattle.std.proofs.Common.{ℕ, List, sym, subst}
+use Rattle.node_text.specs.Node.{LevelValue, node, IsFormed}
 use Rattle.plan_core.specs.PlanMade.{plan_value}
 use Rattle.plan_evidence.specs.Named.{Names}
-use Rattle.lxp_core.specs.View.{View}
 use Rattle.lazy_plan.specs.Bench.{documents, ops_of}
-use Rattle.lazy_value.specs.Above.{node_levels, node_inside}
-use Rattle.lazy_value.specs.Mediators.{state_of, plan_of, IsMediatorOf}
-use Rattle.lazy_value.specs.Places.{IsNode}
+use Rattle.lazy_value.specs.Above.{node_levels}
+use Rattle.lazy_value.specs.Mediators.{state_of, plan_of}
 use Rattle.lazy_value.proofs.Having.{valid_document}
 use Rattle.lazy_value.proofs.Saying.{node_formed, node_named}
 use Rattle.lazy_value.proofs.mediator.Mediator.node_data.Goals as goal
