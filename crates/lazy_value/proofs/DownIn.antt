@@ -56,7 +56,7 @@ module _ (st : BenchState) (op v input : ℕ) (at : Position) (origin : Origin) 
 -- THE ROOT
 
 -- the list of the elements that an operator makes is its only piece
-element_pieces : (o : Operator) → form o ≡ makes_element → (u : ℕ) → element_list (shape_of o) ≡ Some u → pieces_of o ≡ var_piece u ∷ []
+pub element_pieces : (o : Operator) → form o ≡ makes_element → (u : ℕ) → element_list (shape_of o) ≡ Some u → pieces_of o ≡ var_piece u ∷ []
 element_pieces (source s out) f u e = cc
 element_pieces (get_descendants i start path out) f u e = cc
 element_pieces (join l r tests) f u e = cc

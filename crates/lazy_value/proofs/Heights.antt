@@ -140,5 +140,5 @@ mediator_walked {view = view} keeps s t m n most h w =
       mediator = w.bench;
       kept = w.kept;
       nodes = nodes_stay (state_of (view s) m.bench) (state_of (view t) n.bench) w.kept;
-      heights = λ x i. heights_kept (state_of (view s) m.bench) (state_of (view t) n.bench) w.kept same x.site i;
+      heights = λ x i. heights_kept (state_of (view s) m.bench) (state_of (view t) n.bench) w.kept same x.site i.site;
     }

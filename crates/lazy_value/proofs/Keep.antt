@@ -74,7 +74,7 @@ module _ (a b : BenchState) (k : KeepsBench a b) where
   }
 
   -- the trees below a made element are the same after a call
-  element-kept : (op : ℕ) (c : Position) → Stands a op makes_element c → element_trees b op c ≡ element_trees a op c
+  pub element-kept : (op : ℕ) (c : Position) → Stands a op makes_element c → element_trees b op c ≡ element_trees a op c
   element-kept op c h =
       ap (λ (d : Documents). piece_items d (piece_of (ops_of b) op) (binding_at b (input_at (ops_of b) op) c) (ends 0)) k.documents
       ∙ ap (λ (ops : List Operator). piece_items (documents a) (piece_of ops op) (binding_at b (input_at (ops_of b) op) c) (ends 0)) ops_kept
@@ -182,7 +182,7 @@ module _ (a b : BenchState) (k : KeepsBench a b) where
   head_label-kept (Text op index) h = ap (λ (ops : List Operator). text_of (piece_at ops op index)) ops_kept
 
   -- the trees below a node are the same after a call
-  head_trees-kept : (x : Head) → IsHead a x → head_trees b x ≡ head_trees a x
+  pub head_trees-kept : (x : Head) → IsHead a x → head_trees b x ≡ head_trees a x
   head_trees-kept (Whole s p) h = ap charged (node-kept kids_at s p h)
   head_trees-kept (Built op at) h = element-kept op at h
   head_trees-kept (Leaf s p) h = refl
@@ -213,7 +213,7 @@ module _ (a b : BenchState) (k : KeepsBench a b) where
   number_from-kept op (Some c) h = number_kept op c h
 
   -- the whole number of each operator is the same after a call
-  sizes_kept : ◌≡◌ {A = ℕ → ℕ} (size_of b) (size_of a)
+  pub sizes_kept : ◌≡◌ {A = ℕ → ℕ} (size_of b) (size_of a)
   sizes_kept = λ i n. k.size n i
 
   -- no more trees come after a node after a call

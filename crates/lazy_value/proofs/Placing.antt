@@ -12,26 +12,18 @@ use Rattle.plan_core.specs.Tolled.{Tolled, ends, item, toll, is_item, item_label
 use Rattle.plan_core.specs.TolledRows.{TolledValue, of_source, element, trees}
 use Rattle.plan_core.specs.Events.{RowEvents, events, visited, element_alone, tolled_destroyed, tolled_document}
 use Rattle.lazy_plan.specs.Bench.{BenchState, ops_of, documents, told, KeepsBench, AsksAtMost}
-use Rattle.lazy_value.specs.Ids.{here, IsSite}
+use Rattle.lazy_value.specs.Above.{rests_above, top_above, IsLedTo}
+use Rattle.lazy_value.specs.Ids.{here}
 use Rattle.lazy_value.specs.Steps.{StandsFor, Reaches}
-use Rattle.lazy_value.specs.Places.{plan_document, down_toll, right_toll, HasPlace, HasNoPlace, IsLabelAt, IsAt, IsThere}
+use Rattle.lazy_value.specs.Places.{plan_document, down_toll, right_toll, HasPlace, HasNoPlace, IsLabelAt, IsNode, IsAt, IsThere}
 use Rattle.lazy_value.specs.Mediators.{NodesStay}
 use Rattle.lazy_value.specs.declared.ids.NodeId.{NodeId}
-use Rattle.lazy_value.specs.declared.ids.Site.{Site}
 use Rattle.lazy_value.specs.declared.ids.Site.TheVariants.{Root}
+use Rattle.lazy_value.proofs.AboveKept.{led-kept, rests-kept, HasTop-kept}
+use Rattle.lazy_value.proofs.Indexes.{below_paid, after_paid}
 use Rattle.lazy_value.proofs.Keep.{keeps_sites}
 
 -- LISTS OF TREES BY PLACES
-
--- what is below and after a tree doesn't change when it is reached
-below_paid : (f : Tolled) → trees_below (paid f) ≡ trees_below f
-below_paid (ends t) = refl
-below_paid (item t x d r) = refl
-
--- the trees after the first are the same when that is reached
-after_paid : (f : Tolled) → trees_after (paid f) ≡ trees_after f
-after_paid (ends t) = refl
-after_paid (item t x d r) = refl
 
 -- there is a first tree when it is reached exactly where there was
 is_item_paid : (f : Tolled) → is_item (paid f) ≡ is_item f
@@ -85,7 +77,7 @@ plain_from (suc k) (ends t) = plain_from k (ends 0)
 plain_from (suc k) (item t x d r) = plain_from k r
 
 -- the trees below the first without their tolls are those below the first of the trees without theirs
-plain_below : (f : Tolled) → plain (trees_below f) ≡ first_kids (plain f)
+pub plain_below : (f : Tolled) → plain (trees_below f) ≡ first_kids (plain f)
 plain_below (ends t) = refl
 plain_below (item t x d r) = refl
 
@@ -95,12 +87,12 @@ plain_paid (ends t) = refl
 plain_paid (item t x d r) = refl
 
 -- the trees at a place without their tolls are those at it of the trees without theirs
-plain_at : (f : Tolled) (p : List ℕ) → plain (tolled_at f p) ≡ trees_at (plain f) p
+pub plain_at : (f : Tolled) (p : List ℕ) → plain (tolled_at f p) ≡ trees_at (plain f) p
 plain_at f [] = refl
 plain_at f (k ∷ p) = plain_at (trees_from k (trees_below f)) p ∙ ap (λ (g : Forest). trees_at g p) (plain_from k (trees_below f) ∙ ap (from k) (plain_below f))
 
 -- there is a tree with tolls where there is a tree without
-plain_some : (f : Tolled) → is_some (first_label (plain f)) ≡ is_item f
+pub plain_some : (f : Tolled) → is_some (first_label (plain f)) ≡ is_item f
 plain_some (ends t) = refl
 plain_some (item t x d r) = refl
 
@@ -163,7 +155,7 @@ module _ (st : BenchState) (law : IsTolled st) (t : LabelledTree) (e : plan_docu
       (sym law ∙ e)
 
   -- a tree has a place exactly where the tree with tolls has one
-  has_is : (p : List ℕ) → has_place (alone t) p ≡ is_item (tolled_at (tolled st) p)
+  pub has_is : (p : List ℕ) → has_place (alone t) p ≡ is_item (tolled_at (tolled st) p)
   has_is p = ap (λ (f : Forest). is_some (first_label f)) (ap (λ (f : Forest). trees_at f p) (sym document_is) ∙ sym (plain_at (tolled st) p)) ∙ plain_some (tolled_at (tolled st) p)
 
   -- the label at a place of the tree with tolls is that of the document there
@@ -175,11 +167,12 @@ module _ (st : BenchState) (law : IsTolled st) (t : LabelledTree) (e : plan_docu
 -- IDENTIFIERS
 
 -- the root stands at the empty place
-pub root_at : (st : BenchState) (n : NodeId) → n.site ≡ Root → IsAt st n []
-root_at st n e = record {
-  node = subst (λ (x : Site). IsSite st x) (sym e) tt;
+pub root_at : (st : BenchState) → IsAt st (record { site = Root; above = None }) []
+root_at st = record {
+  node = record { site = tt; above = tt; top = refl };
   place = λ y t d. refl;
-  here = λ y. ap (here st) e ∙ sym (paid_last (events (documents st) (ops_of st)) (last_or None (ops_of st)));
+  here = λ y. sym (paid_last (events (documents st) (ops_of st)) (last_or None (ops_of st)));
+  above = λ y. refl;
 }
 
 module _ (a b : BenchState) (k : KeepsBench a b) where
@@ -199,20 +192,29 @@ module _ (a b : BenchState) (k : KeepsBench a b) where
   has_same : (p : List ℕ) → HasPlace a p → HasPlace b p
   has_same p h t e = h t (sym document_same ∙ e)
 
+  -- an identifier of the mediator is one after a call
+  node_same : (n : NodeId) → IsNode a n → IsNode b n
+  node_same n h = record {
+    site = (keeps_sites a b k n.site h.site).node;
+    above = rests-kept a b k (rests_above n.above) h.above;
+    top = HasTop-kept a b k n.site (top_above n.above) h.top;
+  }
+
   -- an identifier that stands at a place stands there after a call
   at_same : (n : NodeId) (p : List ℕ) → IsAt a n p → IsAt b n p
   at_same n p h = record {
-    node = (keeps_sites a b k n.site h.node).node;
+    node = node_same n h.node;
     place = λ y. has_same p (h.place (sym k.told ∙ y));
-    here = λ y. (keeps_sites a b k n.site h.node).here ∙ h.here (sym k.told ∙ y) ∙ ap (λ (f : Tolled). paid (tolled_at f p)) (sym tolled_same);
+    here = λ y. (keeps_sites a b k n.site h.node.site).here ∙ h.here (sym k.told ∙ y) ∙ ap (λ (f : Tolled). paid (tolled_at f p)) (sym tolled_same);
+    above = λ y. led-kept a b k n.site h.node.site (rests_above n.above) (top_above n.above) p (h.above (sym k.told ∙ y));
   }
 
   -- each earlier identifier stays one at its place after a call
   pub nodes_stay : NodesStay a b
   nodes_stay = record {
-    node = λ n h. (keeps_sites a b k n.site h).node;
+    node = node_same;
     place = at_same;
-    left = λ n h. (keeps_sites a b k n.site h).left;
+    left = λ n h. (keeps_sites a b k n.site h.site).left;
   }
 
 module _ (st : BenchState) (law : IsTolled st) (n : NodeId) (p : List ℕ) (h : IsAt st n p) where
@@ -245,18 +247,19 @@ module _ (st : BenchState) (law : IsTolled st) (n : NodeId) (p : List ℕ) (h : 
       ap plain (h.here y) ∙ plain_paid (tolled_at (tolled st) p) ∙ plain_at (tolled st) p ∙ ap (λ (f : Forest). trees_at f p) (document_is st law t e)
 
 module _ (a b : BenchState) (k : KeepsBench a b) (law : IsTolled a) (f : Tolled) (q : List ℕ) (y : IsTrue (told a)) (e : f ≡ tolled_at (tolled a) q) where
-  -- what is reached of the trees at a place stands there
-  reached_there : (x : Site) (n : NodeId) → n.site ≡ x → StandsFor a b f x → IsThere a b (Some q) n
-  reached_there x n z h =
+  -- what is reached of the trees at a place stands there, where what is kept above it leads there
+  reached_there : (n : NodeId) → StandsFor a b f n.site → IsNode b n → IsLedTo b n.site (rests_above n.above) (top_above n.above) q → IsThere a b (Some q) n
+  reached_there n h node led =
       let has : HasPlace a q = λ t d. has_is a law t d q ∙ ap is_item (sym e) ∙ h.tree y in
       record {
         place = q;
         asked = refl;
         has = has;
         at = record {
-          node = subst (λ (s : Site). IsSite b s) (sym z) h.node;
+          node = node;
           place = λ w. has_same a b k q has;
-          here = λ w. ap (here b) z ∙ h.here y ∙ ap paid e ∙ ap (λ (g : Tolled). paid (tolled_at g q)) (sym (tolled_same a b k));
+          here = λ w. h.here y ∙ ap paid e ∙ ap (λ (g : Tolled). paid (tolled_at g q)) (sym (tolled_same a b k));
+          above = λ w. led;
         };
       }
 
@@ -269,21 +272,23 @@ module _ (a b : BenchState) (k : KeepsBench a b) (law : IsTolled a) (n : NodeId)
   pub down_none : Reaches a b (trees_below (here a n.site)) None → IsTrue (told a) → HasNoPlace a (Some (child_place p))
   down_none i y = reached_none a b k law (trees_below (here a n.site)) (child_place p) y (below_at a law n p h y) (i y)
 
-  -- a first child that was found stands at the place of the first child
-  pub down_some : (x : Site) (m : NodeId) → m.site ≡ x → StandsFor a b (trees_below (here a n.site)) x → IsTrue (told a) → IsThere a b (Some (child_place p)) m
-  down_some x m z i y = reached_there a b k law (trees_below (here a n.site)) (child_place p) y (below_at a law n p h y) x m z i
+  -- a first child that was found stands at the place of the first child, where what is kept above it leads there
+  pub down_some : (m : NodeId) → StandsFor a b (trees_below (here a n.site)) m.site → IsNode b m → IsLedTo b m.site (rests_above m.above) (top_above m.above) (child_place p) → IsTrue (told a)
+      → IsThere a b (Some (child_place p)) m
+  down_some m i node led y = reached_there a b k law (trees_below (here a n.site)) (child_place p) y (below_at a law n p h y) m i node led
 
   -- where an identifier has no next sibling, there is no next place
   pub right_none : Reaches a b (trees_after (here a n.site)) None → IsTrue (told a) → HasNoPlace a (next_place p)
   right_none i y t d q z = reached_none a b k law (trees_after (here a n.site)) q y (after_here a law n p h y ∙ sym (at_right (tolled a) p q z)) (i y) t d q refl
 
-  -- a next sibling that was found stands at the next place
-  pub right_some : (x : Site) (m : NodeId) → m.site ≡ x → StandsFor a b (trees_after (here a n.site)) x → IsTrue (told a) → IsThere a b (next_place p) m
-  right_some x m z i y = goes (next_place p) refl
+  -- a next sibling that was found stands at the next place, where what is kept above it leads there
+  pub right_some : (m : NodeId) → StandsFor a b (trees_after (here a n.site)) m.site → IsNode b m
+      → ((q : List ℕ) → next_place p ≡ Some q → IsLedTo b m.site (rests_above m.above) (top_above m.above) q) → IsTrue (told a) → IsThere a b (next_place p) m
+  right_some m i node led y = goes (next_place p) refl
     where
       tree_there : is_item (trees_after (tolled_at (tolled a) p)) ≡ true
       tree_there = ap is_item (sym (after_here a law n p h y)) ∙ i.tree y
 
       goes : (o : Option (List ℕ)) → next_place p ≡ o → IsThere a b o m
       goes None u = absurd (alone_place p u (tolled a) (alone_last (events (documents a) (ops_of a)) (last_or None (ops_of a))) tree_there)
-      goes (Some q) u = reached_there a b k law (trees_after (here a n.site)) q y (after_here a law n p h y ∙ sym (at_right (tolled a) p q u)) x m z i
+      goes (Some q) u = reached_there a b k law (trees_after (here a n.site)) q y (after_here a law n p h y ∙ sym (at_right (tolled a) p q u)) m i node (led q u)

@@ -1,8 +1,10 @@
+pub mod Above
 pub mod Calls
 pub mod Heights
 pub mod Ids
 pub mod Kept
 pub mod Labels
+pub mod Levels
 pub mod Mediators
 pub mod Origins
 pub mod Places

@@ -1,5 +1,6 @@
 -- The places of a plan's document at which identifiers stand.
 use Rattle.std.specs.Prelude.{◌≡◌, ℕ, false, IsTrue, List, Option, Some, MatchOption}
+use Rattle.std.specs.List.{AllByRecursion}
 use Rattle.mix_tree.specs.Forest.{LabelledTree, alone}
 use Rattle.mix_tree.specs.Place.{has_place, tree_at}
 use Rattle.mix_tree.specs.Nodes.{Documents}
@@ -7,6 +8,7 @@ use Rattle.plan_core.specs.Plans.{Operator, document}
 use Rattle.plan_core.specs.Tolled.{toll, trees_below, trees_after, paid, tolled_at}
 use Rattle.plan_core.specs.Events.{visited, tolled_document}
 use Rattle.lazy_plan.specs.Bench.{BenchState, ops_of, documents, told}
+use Rattle.lazy_value.specs.Above.{rests_above, top_above, HasTop, IsLedTo}
 use Rattle.lazy_value.specs.Ids as ids
 use Rattle.lazy_value.specs.declared.ids.NodeId.{NodeId}
 
@@ -34,16 +36,19 @@ HasNoPlace st goal = (t : LabelledTree) → plan_document st ≡ Some t → (p :
 abbrev pub IsLabelAt : BenchState → List ℕ → List ℕ → Type 0
 IsLabelAt st p label = (t : LabelledTree) → plan_document st ≡ Some t → (u : LabelledTree) × (tree_at t p ≡ Some u) × (label ≡ u.label)
 
--- an identifier is one of the mediator
-abbrev pub IsNode : BenchState → NodeId → Type 0
-IsNode st n = ids.IsSite st n.site
+-- an identifier is one of the mediator: so are the place at which it stands, and what is kept above it
+pub record IsNode (st : BenchState) (n : NodeId) : Type 0 where
+  pub site : ids.IsSite st n.site
+  pub above : AllByRecursion (ids.IsRest st) (rests_above n.above)
+  pub top : HasTop st n.site (top_above n.above)
 
 -- an identifier stands at a place of the plan's document, where the sources are told: the tree there and those after it, with their tolls, are
--- those that the identifier stands for
+-- those that the identifier stands for, and what is kept above it leads there
 pub record IsAt (st : BenchState) (n : NodeId) (p : List ℕ) : Type 0 where
   pub node : IsNode st n
   pub place : IsTrue (told st) → HasPlace st p
   pub here : IsTrue (told st) → ids.here st n.site ≡ paid (tolled_at (tolled_document (documents st) (ops_of st)) p)
+  pub above : IsTrue (told st) → IsLedTo st n.site (rests_above n.above) (top_above n.above) p
 
 -- a call answers no node, or an identifier of the mediator
 abbrev pub GivesNode : BenchState → Option NodeId → Type 0

@@ -3,6 +3,7 @@ use Rattle.std.specs.Prelude.{◌≡◌, ◌<◌, ℕ, suc, IsTrue, MatchOption,
 use Rattle.std.specs.List.{AllByRecursion, last_or}
 use Rattle.mix_base.specs.Events.{found, without_skips}
 use Rattle.mix_tree.specs.Nodes.{Documents}
+use Rattle.mix_tree.specs.Place.{child_place, next_place}
 use Rattle.mix_tree.specs.declared.var.Key.{Key}
 use Rattle.plan_core.specs.declared.plan.Piece.{Piece}
 use Rattle.plan_core.specs.declared.plan.Piece.TheVariants.{Var as var_piece}
@@ -13,6 +14,7 @@ use Rattle.plan_core.specs.TolledRows.{TolledRow}
 use Rattle.plan_evidence.specs.Named.{maker, Listing, of_pieces, of_group, element_list, list_of, members, outer_of}
 use Rattle.plan_evidence.specs.Remains.{Remains, nothing_left, pieces_left, members_left, IsSameIn, IsAround, StandsAt}
 use Rattle.plan_forms.specs.Forms.{gathers_all, gathers_groups, input_at, keys_of, pieces_of, piece_of}
+use Rattle.lazy_binding.specs.World.{place_in}
 use Rattle.lazy_binding.specs.declared.position.Position.{Position}
 use Rattle.lazy_plan.specs.Bench.{BenchState, ops_of, documents, events_of, told, IsCursor, binding_at, ahead_at}
 use Rattle.lazy_plan.specs.Groups.{group_ahead}
@@ -33,6 +35,7 @@ use Rattle.lazy_value.specs.declared.ids.Turn.TheVariants.{Over, At, On}
 use Rattle.lazy_value.specs.declared.ways.Ways.{Ways}
 use Rattle.std.specs.declared.alloc.Global.{Global}
 use Rattle.std.specs.declared.rc.Rc.{Rc}
+use Rattle.tree_buffer.specs.declared.spot.Spot.{Spot}
 
 -- WHAT IS LEFT
 
@@ -183,9 +186,23 @@ ChildStandsIn old new op at x =
     MatchOption x (Unit {0}) (λ site. (n : ℕ) (c : Position) (u : ℕ) (list : Listing) → IsHolder old n c → IsBelow old n c (input_at (ops_of old) op) at
     → pieces_of (op_at (ops_of old) op) ≡ var_piece u ∷ [] → list_of (ops_of old) u ≡ Some list → SiteStandsIn new n c list site)
 
--- from one state to another, the first child of a node that is an element stands in the element's list
+-- an identifier stands at this place of source s
+abbrev pub StandsInSource : BenchState → ℕ → Option (List ℕ) → Site → Type 0
+StandsInSource st s there Root = ⊥
+StandsInSource st s there (Inside t x) = (t ≡ s) × (Some (place_in st.world s x) ≡ there)
+StandsInSource st s there (Item head rest) = ⊥
+
+-- from one state to another, the first child of a source's node, if it has one, stands at the place of the first child in the source
+abbrev pub SpotChildIn : BenchState → BenchState → ℕ → Spot → Option Site → Type 0
+SpotChildIn old new s p x = MatchOption x (Unit {0}) (StandsInSource new s (Some (child_place (place_in old.world s p))))
+
+-- from one state to another, the next sibling of a source's node, if it has one, stands at the next place in the source
+abbrev pub SpotNextIn : BenchState → BenchState → ℕ → Spot → Option Site → Type 0
+SpotNextIn old new s p x = MatchOption x (Unit {0}) (StandsInSource new s (next_place (place_in old.world s p)))
+
+-- from one state to another, the first child of a node that is an element stands in the element's list, and that of a source's node in the source
 abbrev pub HeadChildIn : BenchState → BenchState → Head → Option Site → Type 0
-HeadChildIn old new (Whole s p) x = Unit {0}
+HeadChildIn old new (Whole s p) x = SpotChildIn old new s p x
 HeadChildIn old new (Built op at) x = ChildStandsIn old new op at x
 HeadChildIn old new (Leaf s p) x = Unit {0}
 HeadChildIn old new (Text op index) x = Unit {0}
@@ -204,14 +221,15 @@ pub record IsInOuter (st : BenchState) (site : Site) : Type 0 where
 abbrev pub RootChildIn : BenchState → Option Site → Type 0
 RootChildIn st x = MatchOption x (Unit {0}) (IsInOuter st)
 
--- from one state to another, the first child of a node that the plan makes stands in the list of that element
+-- from one state to another, the first child of a node that the plan makes stands in the list of that element, and that of a source's node in the source
 abbrev pub SiteChildIn : BenchState → BenchState → Site → Option Site → Type 0
 SiteChildIn old new Root x = RootChildIn new x
-SiteChildIn old new (Inside s p) x = Unit {0}
+SiteChildIn old new (Inside s p) x = SpotChildIn old new s p x
 SiteChildIn old new (Item head rest) x = HeadChildIn old new head x
 
--- from one state to another, the next sibling of a member of a list that the plan makes stands in each list of which the rest after it is left
+-- from one state to another, the next sibling of a member of a list that the plan makes stands in each list of which the rest after it is left, and that of a
+-- source's node in the source
 abbrev pub SiteNextIn : BenchState → BenchState → Site → Option Site → Type 0
 SiteNextIn old new Root x = Unit {0}
-SiteNextIn old new (Inside s p) x = Unit {0}
+SiteNextIn old new (Inside s p) x = SpotNextIn old new s p x
 SiteNextIn old new (Item head rest) x = ReachesIn old new rest.value x

@@ -31,7 +31,7 @@ HasTree st = (t : LabelledTree) × (plan_document st ≡ Some t)
 
 -- an identifier over sources that don't tell stands at any place
 stands_untold : (st : BenchState) (n : NodeId) → IsNode st n → told st ≡ false → Stands st n
-stands_untold st n h e = ([], record { node = h; place = λ t. absurd_told t; here = λ t. absurd (told_once t) })
+stands_untold st n h e = ([], record { node = h; place = λ t. absurd_told t; here = λ t. absurd (told_once t); above = λ t. absurd (told_once t) })
   where
     told_once : IsTrue (told st) → ⊥
     told_once t = cc

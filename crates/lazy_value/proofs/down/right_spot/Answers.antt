@@ -1,3 +1,4 @@
+use Rattle.std.proofs.Common.{refl}
 use Rattle.mix_tree.specs.Forest.{after_first}
 use Rattle.lazy_plan.specs.Bench.{state_of, trees_at_spot}
 use Rattle.lazy_value.proofs.Turns.{walked_ran}
@@ -21,3 +22,6 @@ returns-in-None-clause-answer g c = λ y. charged_none _ (rw c.in-None.is at c.i
 
 pub returns-in-Some-clause-answer : goal.returns-in-Some-clause-answer
 returns-in-Some-clause-answer g c = spot_stands (state_of (g.S.Sources.view c.args.s.now) c.args.bench.now) (state_of (g.S.Sources.view c.spot_right.new.s) c.spot_right.new.self) c.args.source _ _ _ c.in-Some.q (rw c.in-Some.is at c.in_ok-spot_right.ensures.answer)
+
+pub returns-in-Some-clause-list : goal.returns-in-Some-clause-list
+returns-in-Some-clause-list g c = let h = rw c.in-Some.is at c.in_ok-spot_right.ensures.answer in (refl, h.place)

@@ -2,4 +2,4 @@ use Rattle.lazy_value.proofs.Keep.{keeps_sites}
 use Rattle.lazy_value.proofs.law.trees_stay.Goals as goal
 
 pub returns : goal.returns
-returns c = λ a b k n h. (keeps_sites a b k n.site h).here
+returns c = λ a b k n h. (keeps_sites a b k n.site h.site).here

@@ -6,4 +6,4 @@ use Rattle.lazy_value.proofs.mediator.Mediator.fetch.Goals as goal
 
 pub returns : goal.returns
 returns c = λ view h p i y. label_there (state_of view c.args.self.now)
-    (c.tolled_is_document.ensures (plan_value (plan_of c.args.self.now)) h.valid (documents (state_of view c.args.self.now))) c.args.n.now p i y _ (c.label_of.ensures view h i.node y)
+    (c.tolled_is_document.ensures (plan_value (plan_of c.args.self.now)) h.valid (documents (state_of view c.args.self.now))) c.args.n.now p i y _ (c.label_of.ensures view h i.node.site y)

@@ -1,7 +1,6 @@
 -- Members of the groups that stand in a list.
-use Rattle.std.proofs.Common.{◌≡◌, ◌∙◌, ℕ, Bool, true, cond, List, [], ◌∷◌, Some, length, refl, ap}
+use Rattle.std.proofs.Common.{◌≡◌, ◌∙◌, ℕ, List, Some, length, ap}
 use Rattle.std.specs.Prelude.{slice_get}
-use Rattle.std.specs.List.{filter}
 use Rattle.mix_base.specs.Events.{without_skips}
 use Rattle.mix_tree.specs.Nodes.{Documents}
 use Rattle.mix_tree.specs.declared.var.Key.{Key}
@@ -19,12 +18,6 @@ use Rattle.plan_evidence.proofs.Counts.{get_after}
 use Rattle.plan_evidence.proofs.Makers.{number_of}
 use Rattle.plan_evidence.proofs.NamedNodes.{list_value}
 use Rattle.plan_evidence.proofs.Shown.{IsLow, IsRow, IsListOf}
-
--- a filter through which all pass leaves all
-pub filter_all : (test : TolledRow → Bool) → ((r : TolledRow) → test r ≡ true) → (rows : List TolledRow) → filter test rows ≡ rows
-filter_all test h [] = refl
-filter_all test h (r ∷ rows) =
-    ap (λ (w : Bool). cond w (r ∷ filter test rows) (filter test rows)) (h r) ∙ ap (λ (rs : List TolledRow). r ∷ rs) (filter_all test h rows)
 
 module _ (p : PlanValue) (valid : IsValid p) (typed : IsTyped p.ops) (docs : Documents) (n : ℕ) (here : Reached) (sound : IsRow docs p.ops n here.row) where
   -- what a list uses is bound, and made by operators below a number

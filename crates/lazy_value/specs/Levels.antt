@@ -1,5 +1,5 @@
 -- The levels of an identifier's text, by what is left after each element on the way to it.
-use Rattle.std.specs.Prelude.{◌≡◌, ℕ, IsTrue, Some, None, List, [], ◌∷◌, ◌++◌}
+use Rattle.std.specs.Prelude.{◌≡◌, ℕ, suc, IsTrue, Some, None, List, [], ◌∷◌, ◌++◌}
 use Rattle.std.specs.List.{last_or}
 use Rattle.mix_base.specs.Events.{found}
 use Rattle.lxp_core.specs.View.{View}
@@ -44,6 +44,13 @@ abbrev pub levels_at : BenchState → List Rest → List LevelValue
 levels_at st [] = []
 levels_at st (r ∷ rests) = levels_at st rests ++ levels_of (tuple_at st r) (remains st r)
 
+-- how many lists are left, one around another
+abbrev pub lists_in : Rest → ℕ
+lists_in End = 0
+lists_in (Pieces' op at next ways q up) = suc (lists_in up)
+lists_in (Members' op at q up) = suc (lists_in up)
+lists_in (Group' op first number at place q up) = suc (lists_in up)
+
 -- variable v holds a list in the bindings of operator n, which is made so
 abbrev pub HasList : BenchState → ℕ → ℕ → Listing → Type 0
 HasList st n v list = (kinds (ops_of st) n v ≡ Some a_list) × (list_of (ops_of st) v ≡ Some list)
@@ -55,7 +62,7 @@ pub data IsOpen (st : BenchState) : List Rest → List ℕ → ℕ → Position 
       → IsOpen st [] [] n c v list
   of_member : {rests : List Rest} {q : List ℕ} {n v e u : ℕ} {c : Position} {list inner : Listing} {head : Head} {r : Rest} → IsOpen st rests q n c v list
       → IsRest st r → (s : IsStanding st n c list head r) → (j : ℕ) → IsIndex (documents st) (binding_at st n c) v (remains st r) j → s.piece ≡ var_piece e
-      → element_list (maker (ops_of st) e) ≡ Some u → HasList st (hand_op st n r) u inner
+      → element_list (maker (ops_of st) e) ≡ Some u → HasList st (hand_op st n r) u inner → IsHolder st (hand_op st n r) (hand_at c r)
       → IsOpen st (r ∷ rests) (q ++ j ∷ []) (hand_op st n r) (hand_at c r) u inner
 
 -- over told sources, where the list of the element at a place is open, and a node stands in it before a rest, the levels by that rest and by those after the elements

@@ -1,5 +1,5 @@
 -- The levels by what is left after each element on the way to a node open the document to it.
-use Rattle.std.proofs.Common.{◌≡◌, inl, inr, ℕ, zero, suc, Bool, true, false, cond, List, [], ◌∷◌, ◌++◌, Some, None, length, length-append, refl, ◌∙◌, sym, ap, subst, arith}
+use Rattle.std.proofs.Common.{◌≡◌, inl, inr, ℕ, zero, suc, Bool, true, false, cond, List, [], ◌∷◌, ◌++◌, Some, None, refl, ◌∙◌, ap, subst}
 use Rattle.std.specs.Prelude.{IsTrue, slice_get}
 use Rattle.std.specs.List.{filter}
 use Rattle.mix_base.proofs.Choices.{none_some, some_is}
@@ -18,7 +18,7 @@ use Rattle.plan_evidence.specs.Held.{node_values, AreOf}
 use Rattle.plan_evidence.specs.Laws.{SomeBinding}
 use Rattle.plan_evidence.specs.Named.{Listing, members}
 use Rattle.plan_evidence.specs.Opened.{Enters, Opens, of_outer, of_element}
-use Rattle.plan_evidence.specs.Remains.{Remains, HasTuple, IsIndex, IsListIn, IsToldBy, StandsAt, at_piece, at_member, levels_of, nothing_left, members_left}
+use Rattle.plan_evidence.specs.Remains.{Remains, HasTuple, IsIndex, IsListIn, IsToldBy, StandsAt, at_member, levels_of, members_left}
 use Rattle.plan_evidence.proofs.Aparts.{at_index}
 use Rattle.plan_evidence.proofs.NodeValues.{keys_alike}
 use Rattle.plan_evidence.proofs.Leading.{remains_lead}
@@ -33,12 +33,13 @@ use Rattle.lazy_evidence.proofs.Holds.{positions_have_evidence}
 use Rattle.lazy_plan.specs.Bench.{BenchState, ops_of, documents, events_of, told, IsCursor, binding_at, ahead_at}
 use Rattle.lazy_plan.specs.Groups.{group_ahead}
 use Rattle.lazy_value.specs.Ids.{IsRest}
-use Rattle.node_levels.specs.Levels.{HasList, reached_at, tuple_of, tuple_at, levels_at, IsOpen, of_root, of_member}
+use Rattle.lazy_value.specs.Levels.{HasList, reached_at, tuple_of, tuple_at, levels_at, IsOpen, of_root, of_member}
 use Rattle.lazy_value.specs.Standing.{remains, IsHolder, hand_op, hand_at, IsStanding}
 use Rattle.lazy_value.specs.declared.ids.Head.{Head}
 use Rattle.lazy_value.specs.declared.ids.Rest.{Rest, End, Pieces', Members', Group'}
 use Rattle.lazy_value.proofs.Listings.{holder_sound}
-use Rattle.node_levels.proofs.Members.{IsMemberHere, member_here, filter_all}
+use Rattle.lazy_value.proofs.Holders.{not_gone, not_all}
+use Rattle.lazy_value.proofs.MembersHere.{IsMemberHere, member_here}
 
 -- the binding at an index of those that events give is one of theirs
 index_among : (es : RowEvents) (i : ℕ) (row : TolledRow) → slice_get (without_skips es) i ≡ Some row → SomeBinding (λ b. b ≡ row) es
@@ -67,7 +68,7 @@ filter_index test (z ∷ xs) (suc k) x e =
 
 module _ (st : BenchState) (valid : IsValid (plan_value st.plan)) (typed : IsTyped (ops_of st)) (bench : IsBench st.world (ops_of st)) (y : IsTrue (told st)) where
   -- the nodes at the parts of a holder's cursor are right evidence of its binding
-  holder_evidence : (n : ℕ) (c : Position) → IsHolder st n c
+  pub holder_evidence : (n : ℕ) (c : Position) → IsHolder st n c
       → AreRight (documents st) (ops_of st) n (reached_at st n c).nodes × AreOf (documents st) (ops_of st) n (reached_at st n c).nodes (binding_at st n c)
   holder_evidence n c h =
       let a = h.among y in
@@ -119,19 +120,6 @@ module _ (st : BenchState) (valid : IsValid (plan_value st.plan)) (typed : IsTyp
             of = e.1;
           }
 
-    -- no walk stands where nothing is left
-    not_gone : {r : Remains} {row : TolledRow} {piece : Piece} → StandsAt (documents st) (ops_of st) (binding_at st n c) list r row piece → r ≡ nothing_left → ⊥
-    not_gone (at_piece up same get single) e = cc
-    not_gone (at_member up before are) e = cc
-
-    -- no walk stands at a member while all are left
-    not_all : {input : ℕ} {piece q : Piece} {around : Remains} {row : TolledRow} → StandsAt (documents st) (ops_of st) (binding_at st n c) list (members_left input [] piece (events_of st input) around) row q → ⊥
-    not_all {input = input} {row = row} (at_member up before are) =
-        let rows : List TolledRow = without_skips (events_of st input) in
-        let all = ap (λ (rs : List TolledRow). length rs)
-        (sym (filter_all (λ r. same_values (key_values (documents st) [] (binding_at st n c)) (key_values (documents st) [] r)) (λ r. refl) rows) ∙ are) in
-        absurd (omega (arith, all, length-append before (row ∷ rows)))
-
     -- a walk that stands at a member stands at its group's piece
     own_piece : {input : ℕ} {keys : List Key} {piece q : Piece} {ahead : RowEvents} {around : Remains} {row : TolledRow}
         → StandsAt (documents st) (ops_of st) (binding_at st n c) list (members_left input keys piece ahead around) row q
@@ -142,7 +130,7 @@ module _ (st : BenchState) (valid : IsValid (plan_value st.plan)) (typed : IsTyp
     pub hand_holder : (head : Head) (r : Rest) → IsRest st r → IsStanding st n c list head r → IsHolder st (hand_op st n r) (hand_at c r)
     hand_holder head End i s = h
     hand_holder head (Pieces' op at next ways q up) i s = h
-    hand_holder head (Members' op None q up) i s = absurd (not_all s.stands)
+    hand_holder head (Members' op None q up) i s = absurd (not_all (documents st) (ops_of st) (binding_at st n c) s.stands)
     hand_holder head (Members' op (Some d) q up) i s =
         member_holder (input_at (ops_of st) op) [] (piece_of (ops_of st) op) (ahead_at st (input_at (ops_of st) op) d) (remains st up) d i.1 (own_piece s.stands)
     hand_holder head (Group' op first number at place q up) i s =
@@ -151,9 +139,9 @@ module _ (st : BenchState) (valid : IsValid (plan_value st.plan)) (typed : IsTyp
     -- the places at the parts of the cursor over whose binding a node is made tell it from the others of its piece
     hand_told : (head : Head) (r : Rest) → IsRest st r → IsStanding st n c list head r
         → HasTuple (documents st) (ops_of st) (reached_at st n c) (remains st r) (tuple_at st r) (reached_at st (hand_op st n r) (hand_at c r))
-    hand_told head End i s = not_gone s.stands refl
+    hand_told head End i s = not_gone (documents st) (ops_of st) (binding_at st n c) s.stands refl
     hand_told head (Pieces' op at next ways q up) i s = (refl, refl)
-    hand_told head (Members' op None q up) i s = absurd (not_all s.stands)
+    hand_told head (Members' op None q up) i s = absurd (not_all (documents st) (ops_of st) (binding_at st n c) s.stands)
     hand_told head (Members' op (Some d) q up) i s =
         member_told (input_at (ops_of st) op) [] (piece_of (ops_of st) op) (ahead_at st (input_at (ops_of st) op) d) (remains st up) d i.1 (own_piece s.stands)
     hand_told head (Group' op first number at place q up) i s =
@@ -164,12 +152,6 @@ module _ (st : BenchState) (valid : IsValid (plan_value st.plan)) (typed : IsTyp
         → Enters (documents st) (ops_of st) (reached_at st n c) list (levels_of (tuple_at st r) (remains st r)) j (reached_at st (hand_op st n r) (hand_at c r)) s.piece
     hand_enters head r i s j index =
         remains_lead (plan_value st.plan) valid (documents st) (reached_at st n c) (reached_at st (hand_op st n r) (hand_at c r)) v list list_in (remains st r) s.piece s.stands (tuple_at st r) (hand_told head r i s) j index
-
-  -- the binding in which the list of an element stands is a holder's, and has it
-  open_holder : {rests : List Rest} {q : List ℕ} {n v : ℕ} {c : Position} {list : Listing} → IsOpen st rests q n c v list → IsHolder st n c × HasList st n v list
-  open_holder (of_root h o row e has) = (h, has)
-  open_holder (of_member {n = n} {v = v} {c = c} {list = list} {head = head} {r = r} up i s j index own e has) =
-      (let x = open_holder up in (hand_holder n c x.0 v list x.1 head r i s, has))
 
   -- the levels by what is left after a node and after each element on the way to it open the document to the node
   pub opens_to : {rests : List Rest} {q : List ℕ} {n v : ℕ} {c : Position} {list : Listing} → IsOpen st rests q n c v list → (head : Head) (r : Rest) → IsRest st r → (s : IsStanding st n c list head r) → (j : ℕ)
@@ -188,7 +170,6 @@ module _ (st : BenchState) (valid : IsValid (plan_value st.plan)) (typed : IsTyp
         right = (holder_evidence n c h).0;
       })
       (hand_enters n c h v list has head r i s j index)
-  opens_to (of_member {rests = rests} {q = q} {n = n} {v = v} {u = u} {c = c} {list = list} {inner = inner} {head = above} {r = rest} up i s k index own e has) head r i' s' j index' =
-      let x = open_holder up in
+  opens_to (of_member {rests = rests} {q = q} {n = n} {v = v} {u = u} {c = c} {list = list} {inner = inner} {head = above} {r = rest} up i s k index own e has h) head r i' s' j index' =
       let before = subst (Opens (documents st) (ops_of st) (levels_at st (rest ∷ rests)) (q ++ k ∷ []) (reached_at st (hand_op st n rest) (hand_at c rest))) own (opens_to up above rest i s k index) in
-      of_element before e has.1 (hand_enters (hand_op st n rest) (hand_at c rest) (hand_holder n c x.0 v list x.1 above rest i s) u inner has head r i' s' j index')
+      of_element before e has.1 (hand_enters (hand_op st n rest) (hand_at c rest) h u inner has head r i' s' j index')

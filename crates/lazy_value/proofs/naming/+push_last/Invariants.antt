@@ -1,0 +1,5 @@
+use Rattle.lazy_value.specs.Levels.{lists_in}
+use Rattle.lazy_value.proofs.naming.+push_last.Given as goal
+
+abbrev pub decreases-push_last : goal.decreases-push_last
+decreases-push_last l = lists_in l.rest.now.value
