@@ -1,0 +1,33 @@
+-- By which levels a tree of a list is entered, and which tree levels enter.
+use Rattle.std.specs.Prelude.{◌≡◌, ℕ, List, map}
+use Rattle.mix_tree.specs.Nodes.{Documents}
+use Rattle.node_text.specs.Node.{LevelValue}
+use Rattle.plan_core.specs.declared.plan.Piece.{Piece}
+use Rattle.plan_core.specs.Plans.{PlanValue}
+use Rattle.plan_core.specs.Valid.{IsValid}
+use Rattle.plan_evidence.specs.Named.{Listing, Reached}
+use Rattle.plan_evidence.specs.Opened.{Enters}
+use Rattle.plan_evidence.specs.Remains.{IsListIn}
+
+-- the numbers of levels
+abbrev pub numbers_of : List LevelValue → List ℕ
+numbers_of ls = map (λ l. l.piece) ls
+
+-- two trees are entered alike: through the pieces of the same numbers, and made of the same piece over the same binding
+pub record AreAlike (ls ms : List LevelValue) (there also : Reached) (x y : Piece) : Type 0 where
+  pub numbers : numbers_of ls ≡ numbers_of ms
+  pub row : there.row ≡ also.row
+  pub piece : x ≡ y
+
+-- levels that lead to the same index of a list over the same binding enter alike, whatever places they have
+abbrev pub EnteredOnce : Type 0
+EnteredOnce =
+    (p : PlanValue) → IsValid p → (docs : Documents) (here other : Reached) (v : ℕ) (list : Listing) → IsListIn docs p.ops here.row v list → other.row ≡ here.row
+    → (ls ms : List LevelValue) (j : ℕ) (there also : Reached) (x y : Piece) → Enters docs p.ops here list ls j there x → Enters docs p.ops other list ms j also y
+    → AreAlike ls ms there also x y
+
+-- the same levels lead to one index of a list over the same binding
+abbrev pub LevelsEnterOnce : Type 0
+LevelsEnterOnce =
+    (p : PlanValue) → IsValid p → (docs : Documents) (here other : Reached) (v : ℕ) (list : Listing) → IsListIn docs p.ops here.row v list → other.row ≡ here.row
+    → (ls : List LevelValue) (i j : ℕ) (there also : Reached) (x y : Piece) → Enters docs p.ops here list ls i there x → Enters docs p.ops other list ls j also y → i ≡ j
