@@ -11,7 +11,7 @@ use Rattle.node_text.specs.Node.{LevelValue}
 use Rattle.plan_core.specs.declared.plan.Piece.{Piece}
 use Rattle.plan_core.specs.declared.plan.Piece.TheVariants.{Var as var_piece, LabelOf as label_piece, Text as text_piece}
 use Rattle.plan_core.specs.Events.{events}
-use Rattle.plan_core.specs.Plans.{PlanValue}
+use Rattle.plan_core.specs.Plans.{Operator, PlanValue}
 use Rattle.plan_core.specs.TolledRows.{TolledRow, tolled_value}
 use Rattle.plan_core.specs.Typed.{IsTyped}
 use Rattle.plan_core.specs.Valid.{Kind, a_node, an_element, a_list, kinds, IsPiece, IsSinglePiece, IsValid}
@@ -19,7 +19,7 @@ use Rattle.plan_core.proofs.Typed.{valid_is_typed}
 use Rattle.plan_evidence.specs.Held.{held}
 use Rattle.plan_evidence.specs.Named.{Listing, of_pieces, of_group, list_of, IsSingle, before_piece, members, Reached, IsMember, Picks, of_member, of_piece, of_list_member}
 use Rattle.plan_evidence.specs.Opened.{Enters, by_one, by_pieces}
-use Rattle.plan_evidence.specs.Remains.{IsListIn}
+use Rattle.plan_evidence.specs.Remains.{Remains, IsAround, whole, a_piece, IsListIn}
 use Rattle.plan_evidence.proofs.Aparts.{at_index, each_without, one_index, members_apart}
 use Rattle.plan_evidence.proofs.HeldApart.{held_apart}
 use Rattle.plan_evidence.proofs.Makers.{number_of}
@@ -63,11 +63,11 @@ own_pieces (of_pieces pieces) = pieces
 own_pieces (of_group n keys piece) = []
 
 -- no list is of pieces and of a group
-not_both : (pieces : List Piece) (n : ℕ) (keys : List Key) (piece : Piece) → of_pieces pieces ≡ of_group n keys piece → ⊥
+pub not_both : (pieces : List Piece) (n : ℕ) (keys : List Key) (piece : Piece) → of_pieces pieces ≡ of_group n keys piece → ⊥
 not_both pieces n keys piece e = cc
 
 -- groups whose listings are the same have the same input, keys and piece
-group_same : (n m : ℕ) (keys own : List Key) (x y : Piece) → of_group n keys x ≡ of_group m own y → (n ≡ m) × (keys ≡ own) × (x ≡ y)
+pub group_same : (n m : ℕ) (keys own : List Key) (x y : Piece) → of_group n keys x ≡ of_group m own y → (n ≡ m) × (keys ≡ own) × (x ≡ y)
 unfolding group_input group_keys group_piece
 group_same n m keys own x y e = (ap group_input e, ap group_keys e, ap group_piece e)
 
@@ -75,6 +75,20 @@ group_same n m keys own x y e = (ap group_input e, ap group_keys e, ap group_pie
 pieces_same : (ps qs : List Piece) → of_pieces ps ≡ of_pieces qs → ps ≡ qs
 unfolding own_pieces
 pieces_same ps qs e = ap own_pieces e
+
+module _ (ops : List Operator) where
+  -- a piece that is no list isn't the value of a variable that holds one
+  pub no_list : (pieces : List Piece) (a b v : ℕ) (q : Piece) (list : Listing) → slice_get pieces a ≡ Some q → IsSingle ops q → slice_get pieces b ≡ Some (var_piece v) → list_of ops v ≡ Some list → a ≡ b → ⊥
+  no_list pieces a b v q list get s get' lo e =
+      let same : q ≡ var_piece v = some_is q (var_piece v) (sym get ∙ ap (slice_get pieces) e ∙ get') in
+      none_some list (sym (subst (IsSingle ops) same s) ∙ lo)
+
+  -- the variables of one piece have one listing
+  pub one_listing : (pieces : List Piece) (a b v w : ℕ) (list other : Listing) → slice_get pieces a ≡ Some (var_piece v) → slice_get pieces b ≡ Some (var_piece w) → list_of ops v ≡ Some list → list_of ops w ≡ Some other
+      → a ≡ b → list ≡ other
+  one_listing pieces a b v w list other get get' lo lo' e =
+      let vars : v ≡ w = var_once v w (some_is (var_piece v) (var_piece w) (sym get ∙ ap (slice_get pieces) e ∙ get')) in
+      some_is list other (sym lo ∙ ap (list_of ops) vars ∙ lo')
 
 module _ (p : PlanValue) (valid : IsValid p) (typed : IsTyped p.ops) (docs : Documents) (n : ℕ) (row : TolledRow) (sound : IsRow docs p.ops n row) where
   -- a bound piece that is no list is a single one of the operator
@@ -148,6 +162,12 @@ module _ (p : PlanValue) (valid : IsValid p) (typed : IsTyped p.ops) (docs : Doc
         let c = inner_size (of_group i keys q) lo in
         omega (arith, b, c)
 
+  -- what is listed in a list is of what is bound
+  pub around_listed : {list inner : Listing} {r : Remains} (m : ℕ) → IsListOf docs p.ops m n list → IsAround docs p.ops row list r inner → (low : ℕ) × IsListOf docs p.ops low n inner
+  around_listed m g whole = (m, g)
+  around_listed {inner = inner} m g (a_piece {pieces = pieces} {n = x} {v = v} up same get lo) =
+      let o = around_listed m g up in (number_of p.ops v, inner_listed o.0 pieces o.1 x v get inner lo)
+
   -- a tree that levels enter is one of the list
   within : {here there : Reached} {list : Listing} {ls : List LevelValue} {j : ℕ} {x : Piece} (m : ℕ) → IsListOf docs p.ops m n list → here.row ≡ row → Enters docs p.ops here list ls j there x
       → j < count (list_trees docs p.ops list row)
@@ -168,19 +188,6 @@ module _ (p : PlanValue) (valid : IsValid p) (typed : IsTyped p.ops) (docs : Doc
       let a = in_list m pieces g l.piece i (var_piece v) get (omega (arith, b, c)) in
       let z = ap (λ r. before_piece docs pieces r l.piece) e in
       omega (arith, a, z)
-
-  -- a piece that is no list isn't the value of a variable that holds one
-  no_list : (pieces : List Piece) (a b v : ℕ) (q : Piece) (list : Listing) → slice_get pieces a ≡ Some q → IsSingle p.ops q → slice_get pieces b ≡ Some (var_piece v) → list_of p.ops v ≡ Some list → a ≡ b → ⊥
-  no_list pieces a b v q list get s get' lo e =
-      let same : q ≡ var_piece v = some_is q (var_piece v) (sym get ∙ ap (slice_get pieces) e ∙ get') in
-      none_some list (sym (subst (IsSingle p.ops) same s) ∙ lo)
-
-  -- the variables of one piece have one listing
-  one_listing : (pieces : List Piece) (a b v w : ℕ) (list other : Listing) → slice_get pieces a ≡ Some (var_piece v) → slice_get pieces b ≡ Some (var_piece w) → list_of p.ops v ≡ Some list → list_of p.ops w ≡ Some other
-      → a ≡ b → list ≡ other
-  one_listing pieces a b v w list other get get' lo lo' e =
-      let vars : v ≡ w = var_once v w (some_is (var_piece v) (var_piece w) (sym get ∙ ap (slice_get pieces) e ∙ get')) in
-      some_is list other (sym lo ∙ ap (list_of p.ops) vars ∙ lo')
 
   -- the bindings at one index of one group are the same
   same_member : (i j c k : ℕ) (keys own : List Key) (here other there also : Reached) (ps qs : List (List ℕ)) → here.row ≡ row → other.row ≡ row → c ≡ k → keys ≡ own → i ≡ j
@@ -205,42 +212,42 @@ module _ (p : PlanValue) (valid : IsValid p) (typed : IsTyped p.ops) (docs : Doc
       let one = one_tree q (bound_at m pieces g l.piece q get) s in
       let u = member_size m pieces g l'.piece w get' k own y lo other also l'.tuple j f x in
       let r = met m pieces g l.piece l'.piece 0 j q (var_piece w) here other e f get get' (omega (arith, one)) u (omega (arith, z)) in
-      absurd (no_list pieces l.piece l'.piece w q (of_group k own y) get s get' lo r.0)
+      absurd (no_list p.ops pieces l.piece l'.piece w q (of_group k own y) get s get' lo r.0)
   alike {here = here} {other = other} m g e f z (by_one (of_piece {pieces = pieces} {l = l} {piece = q} get t s)) (by_pieces {inner = inner} {l = l'} {v = w} {i = k} get' t' lo more) =
       let one = one_tree q (bound_at m pieces g l.piece q get) s in
       let b = within (number_of p.ops w) (inner_listed m pieces g l'.piece w get' (of_pieces inner) lo) f more in
       let c = inner_size m pieces g l'.piece w get' (of_pieces inner) lo in
       let r = met m pieces g l.piece l'.piece 0 k q (var_piece w) here other e f get get' (omega (arith, one)) (omega (arith, b, c)) (omega (arith, z)) in
-      absurd (no_list pieces l.piece l'.piece w q (of_pieces inner) get s get' lo r.0)
+      absurd (no_list p.ops pieces l.piece l'.piece w q (of_pieces inner) get s get' lo r.0)
   alike {here = here} {other = other} {there = there} m g e f z (by_one (of_list_member {pieces = pieces} {v = v} {n = c} {j = i} {keys = keys} {piece = x} {l = l} get lo a)) (by_one (of_piece {l = l'} {piece = q} get' t s)) =
       let one = one_tree q (bound_at m pieces g l'.piece q get') s in
       let u = member_size m pieces g l.piece v get c keys x lo here there l.tuple i e a in
       let r = met m pieces g l.piece l'.piece i 0 (var_piece v) q here other e f get get' u (omega (arith, one)) (omega (arith, z)) in
-      absurd (no_list pieces l'.piece l.piece v q (of_group c keys x) get' s get lo (sym r.0))
+      absurd (no_list p.ops pieces l'.piece l.piece v q (of_group c keys x) get' s get lo (sym r.0))
   alike {here = here} {other = other} {there = there} {also = also} m g e f z (by_one (of_list_member {pieces = pieces} {v = v} {n = c} {j = i} {keys = keys} {piece = x} {l = l} get lo a)) (by_one (of_list_member {v = w} {n = k} {j = j} {keys = own} {piece = y} {l = l'} get' lo' b)) =
       let u = member_size m pieces g l.piece v get c keys x lo here there l.tuple i e a in
       let w' = member_size m pieces g l'.piece w get' k own y lo' other also l'.tuple j f b in
       let r = met m pieces g l.piece l'.piece i j (var_piece v) (var_piece w) here other e f get get' u w' z in
-      let same = group_same c k keys own x y (one_listing pieces l.piece l'.piece v w (of_group c keys x) (of_group k own y) get get' lo lo' r.0) in
+      let same = group_same c k keys own x y (one_listing p.ops pieces l.piece l'.piece v w (of_group c keys x) (of_group k own y) get get' lo lo' r.0) in
       record { numbers = ap (λ a. a ∷ []) r.0; row = same_member i j c k keys own here other there also l.tuple l'.tuple e f same.0 same.1 r.1 a b; piece = same.2 }
   alike {here = here} {other = other} {there = there} m g e f z (by_one (of_list_member {pieces = pieces} {v = v} {n = c} {j = i} {keys = keys} {piece = x} {l = l} get lo a)) (by_pieces {inner = inner} {l = l'} {v = w} {i = k} get' t' lo' more) =
       let u = member_size m pieces g l.piece v get c keys x lo here there l.tuple i e a in
       let b = within (number_of p.ops w) (inner_listed m pieces g l'.piece w get' (of_pieces inner) lo') f more in
       let d = inner_size m pieces g l'.piece w get' (of_pieces inner) lo' in
       let r = met m pieces g l.piece l'.piece i k (var_piece v) (var_piece w) here other e f get get' u (omega (arith, b, d)) z in
-      absurd (not_both inner c keys x (sym (one_listing pieces l.piece l'.piece v w (of_group c keys x) (of_pieces inner) get get' lo lo' r.0)))
+      absurd (not_both inner c keys x (sym (one_listing p.ops pieces l.piece l'.piece v w (of_group c keys x) (of_pieces inner) get get' lo lo' r.0)))
   alike {here = here} {other = other} m g e f z (by_pieces {pieces = pieces} {inner = inner} {l = l} {v = v} {i = i} get t lo more) (by_one (of_piece {l = l'} {piece = q} get' t' s)) =
       let one = one_tree q (bound_at m pieces g l'.piece q get') s in
       let b = within (number_of p.ops v) (inner_listed m pieces g l.piece v get (of_pieces inner) lo) e more in
       let c = inner_size m pieces g l.piece v get (of_pieces inner) lo in
       let r = met m pieces g l.piece l'.piece i 0 (var_piece v) q here other e f get get' (omega (arith, b, c)) (omega (arith, one)) (omega (arith, z)) in
-      absurd (no_list pieces l'.piece l.piece v q (of_pieces inner) get' s get lo (sym r.0))
+      absurd (no_list p.ops pieces l'.piece l.piece v q (of_pieces inner) get' s get lo (sym r.0))
   alike {here = here} {other = other} {also = also} m g e f z (by_pieces {pieces = pieces} {inner = inner} {l = l} {v = v} {i = i} get t lo more) (by_one (of_list_member {v = w} {n = k} {j = j} {keys = own} {piece = y} {l = l'} get' lo' a)) =
       let u = member_size m pieces g l'.piece w get' k own y lo' other also l'.tuple j f a in
       let b = within (number_of p.ops v) (inner_listed m pieces g l.piece v get (of_pieces inner) lo) e more in
       let c = inner_size m pieces g l.piece v get (of_pieces inner) lo in
       let r = met m pieces g l.piece l'.piece i j (var_piece v) (var_piece w) here other e f get get' (omega (arith, b, c)) u z in
-      absurd (not_both inner k own y (one_listing pieces l.piece l'.piece v w (of_pieces inner) (of_group k own y) get get' lo lo' r.0))
+      absurd (not_both inner k own y (one_listing p.ops pieces l.piece l'.piece v w (of_pieces inner) (of_group k own y) get get' lo lo' r.0))
   alike {here = here} {other = other} {also = also} {y = y} m g e f z (by_pieces {pieces = pieces} {inner = inner} {l = l} {ls = ls} {v = v} {i = i} get t lo more) (by_pieces {inner = inner'} {l = l'} {ls = ms} {v = w} {i = k} get' t' lo' more') =
       let listed = inner_listed m pieces g l.piece v get (of_pieces inner) lo in
       let b = within (number_of p.ops v) listed e more in
@@ -248,7 +255,7 @@ module _ (p : PlanValue) (valid : IsValid p) (typed : IsTyped p.ops) (docs : Doc
       let b' = within (number_of p.ops w) (inner_listed m pieces g l'.piece w get' (of_pieces inner') lo') f more' in
       let c' = inner_size m pieces g l'.piece w get' (of_pieces inner') lo' in
       let r = met m pieces g l.piece l'.piece i k (var_piece v) (var_piece w) here other e f get get' (omega (arith, b, c)) (omega (arith, b', c')) z in
-      let same = one_listing pieces l.piece l'.piece v w (of_pieces inner) (of_pieces inner') get get' lo lo' r.0 in
+      let same = one_listing p.ops pieces l.piece l'.piece v w (of_pieces inner) (of_pieces inner') get get' lo lo' r.0 in
       let a = alike (number_of p.ops v) listed e f r.1 more (subst (λ o. Enters docs p.ops other o ms k also y) (sym same) more') in
       record { numbers = ap (λ (ns : List ℕ). l.piece ∷ ns) a.numbers ∙ ap (λ (k : ℕ). k ∷ numbers_of ms) r.0; row = a.row; piece = a.piece }
 
@@ -273,11 +280,11 @@ module _ (p : PlanValue) (valid : IsValid p) (typed : IsTyped p.ops) (docs : Doc
       member_once m c keys q g here other there also l.tuple i j e f x y
   once m g e f (by_one (of_piece {pieces = pieces} {l = l} get t s)) (by_one (of_piece get' t' s')) = ap (λ r. before_piece docs pieces r l.piece) (e ∙ sym f)
   once m g e f (by_one (of_piece {pieces = pieces} {l = l} {piece = q} get t s)) (by_one (of_list_member {v = w} {n = k} {keys = own} {piece = y} get' lo x)) =
-      absurd (no_list pieces l.piece l.piece w q (of_group k own y) get s get' lo refl)
+      absurd (no_list p.ops pieces l.piece l.piece w q (of_group k own y) get s get' lo refl)
   once m g e f (by_one (of_list_member {pieces = pieces} {v = v} {n = c} {keys = keys} {piece = x} {l = l} get lo a)) (by_one (of_piece {piece = q} get' t s)) =
-      absurd (no_list pieces l.piece l.piece v q (of_group c keys x) get' s get lo refl)
+      absurd (no_list p.ops pieces l.piece l.piece v q (of_group c keys x) get' s get lo refl)
   once {here = here} {other = other} {there = there} {also = also} m g e f (by_one (of_list_member {pieces = pieces} {v = v} {n = c} {j = i} {keys = keys} {piece = x} {l = l} get lo a)) (by_one (of_list_member {v = w} {n = k} {j = j} {keys = own} {piece = y} get' lo' b)) =
-      let same = group_same c k keys own x y (one_listing pieces l.piece l.piece v w (of_group c keys x) (of_group k own y) get get' lo lo' refl) in
+      let same = group_same c k keys own x y (one_listing p.ops pieces l.piece l.piece v w (of_group c keys x) (of_group k own y) get get' lo lo' refl) in
       let b' : IsMember docs p.ops c keys other l.tuple j also =
       subst (λ (ks : List Key). IsMember docs p.ops c ks other l.tuple j also) (sym same.1) (subst (λ d. IsMember docs p.ops d own other l.tuple j also) (sym same.0) b) in
       let r = member_once (number_of p.ops v) c keys x (inner_listed m pieces g l.piece v get (of_group c keys x) lo) here other there also l.tuple i j e f a b' in
@@ -285,19 +292,19 @@ module _ (p : PlanValue) (valid : IsValid p) (typed : IsTyped p.ops) (docs : Doc
   once m g e f (by_one x) (by_pieces get t lo more) = absurd (no_levels more)
   once m g e f (by_pieces get t lo more) (by_one x) = absurd (no_levels more)
   once {other = other} {also = also} {y = y} m g e f (by_pieces {pieces = pieces} {inner = inner} {l = l} {ls = ls} {v = v} {i = i} get t lo more) (by_pieces {inner = inner'} {v = w} {i = k} get' t' lo' more') =
-      let same = one_listing pieces l.piece l.piece v w (of_pieces inner) (of_pieces inner') get get' lo lo' refl in
+      let same = one_listing p.ops pieces l.piece l.piece v w (of_pieces inner) (of_pieces inner') get get' lo lo' refl in
       let r = once (number_of p.ops v) (inner_listed m pieces g l.piece v get (of_pieces inner) lo) e f more (subst (λ o. Enters docs p.ops other o ls k also y) (sym same) more') in
       ap (λ z. before_piece docs pieces z l.piece + i) (e ∙ sym f) ∙ ap (λ z. before_piece docs pieces other.row l.piece + z) r
 
 module _ (p : PlanValue) (valid : IsValid p) (docs : Documents) (here : Reached) (v : ℕ) (list : Listing) (in_row : IsListIn docs p.ops here.row v list) where
   -- each value of the binding is as its kind says
-  sound_row : IsRow docs p.ops in_row.op here.row
+  pub sound_row : IsRow docs p.ops in_row.op here.row
   sound_row =
       at_index (IsRow docs p.ops in_row.op) (without_skips (events docs p.ops in_row.op)) in_row.index here.row
       (each_without (IsRow docs p.ops in_row.op) (events docs p.ops in_row.op) (all_sound p valid (valid_is_typed p valid) docs in_row.op in_row.within)) in_row.binding
 
   -- what the list uses is bound
-  list_listed : IsListOf docs p.ops (number_of p.ops v) in_row.op list
+  pub list_listed : IsListOf docs p.ops (number_of p.ops v) in_row.op list
   list_listed = (list_value p valid (valid_is_typed p valid) docs in_row.op here.row sound_row v list (a_list, in_row.kind) in_row.listing).is_listed
 
 -- levels that lead to one index enter alike
