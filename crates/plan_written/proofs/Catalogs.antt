@@ -8,7 +8,7 @@ use Rattle.mix_catalog.proofs.Numbered.{AreNumbered-push}
 -- sources that are found by their names at their own places are so after one line more
 line_numbered : (before after : List SourceSpec) (line : List ℕ) → AreNumbered before → Adds before line after → AreNumbered after
 line_numbered before after line h (inl p) = subst AreNumbered (sym p.1) h
-line_numbered before after line h (inr p) = subst AreNumbered (sym p.4) (AreNumbered-push before p.1 h p.2.1.0 p.3.name)
+line_numbered before after line h (inr p) = subst AreNumbered (sym p.4) (AreNumbered-push before p.1 h p.2.0.1.0 p.3.name)
 
 -- sources that are found by their names at their own places are so after more lines
 lines_numbered : (lines : List (List ℕ)) (before sources : List SourceSpec) → AreNumbered before → Accepts before lines sources → AreNumbered sources

@@ -1,0 +1,4 @@
+pub mod Entering
+pub mod Located
+pub mod Numbered
+pub mod Told
