@@ -1,7 +1,9 @@
 -- What the text of an identifier says names the node at its place.
-use Rattle.std.proofs.Common.{◌≡◌, ◌<◌, ℕ, true, List, [], ◌∷◌, ◌++◌, append-nil, length, drop, Option, Some, None, refl, ◌∙◌, sym, ap, subst, arith}
+use Rattle.std.proofs.Common.{◌≡◌, ◌<◌, ℕ, Bool, true, false, cond, List, [], ◌∷◌, ◌++◌, append-nil, length, drop, Option, Some, None, refl, ◌∙◌, sym, ap, subst, arith}
 use Rattle.std.specs.Prelude.{IsTrue, is_some}
-use Rattle.std.specs.List.{AllByRecursion}
+use Rattle.std.specs.List.{AllByRecursion, list_all}
+use Rattle.std.specs.declared.alloc.Global.{Global}
+use Rattle.std.specs.declared.rc.Rc.{Rc}
 use Rattle.std.proofs.lemmas.List.{drop_at}
 use Rattle.mix_tree.specs.Forest.{Forest, LabelledTree, none, tree, alone, first_label, first_kids, from}
 use Rattle.mix_tree.specs.Place.{has_place, trees_at}
@@ -27,12 +29,13 @@ use Rattle.lazy_binding.specs.Bench.{IsBench}
 use Rattle.lazy_binding.specs.declared.position.Position.{Position}
 use Rattle.lazy_binding.specs.World.{place_in}
 use Rattle.lazy_plan.specs.Bench.{BenchState, ops_of, documents, told, node_at, binding_at}
-use Rattle.lazy_value.specs.Above.{rests_above, top_above, IsItemAt, IsInsideAt, IsLedTo, levels_with, inside_with, place_from, node_levels, node_inside}
+use Rattle.lazy_value.specs.Above.{rests, rests_above, top_above, IsItemAt, IsInsideAt, IsLedTo, levels_with, inside_with, place_from, node_levels, node_inside}
 use Rattle.lazy_value.specs.Ids.{IsRest}
-use Rattle.lazy_value.specs.Levels.{HasList, IsOpen, of_root, of_member, levels_at, reached_at, tuple_at}
+use Rattle.lazy_value.specs.Levels.{HasList, IsOpen, of_root, of_member, levels_at, reached_at, tuple_at, is_below_top, kept_places, said_levels}
 use Rattle.lazy_value.specs.Origins.{IsTreeOfPiece}
 use Rattle.lazy_value.specs.Places.{plan_document, IsAt}
 use Rattle.lazy_value.specs.Standing.{remains, IsHolder, hand_op, hand_at, IsStanding}
+use Rattle.lazy_value.specs.declared.ids.Above.{Above, Outer, Inner'}
 use Rattle.lazy_value.specs.declared.ids.Head.{Head}
 use Rattle.lazy_value.specs.declared.ids.Head.TheVariants.{Whole, Built, Leaf, Text}
 use Rattle.lazy_value.specs.declared.ids.NodeId.{NodeId}
@@ -100,9 +103,63 @@ not_none : (ls ms : List LevelValue) → (ms ≡ [] → ⊥) → ls ++ ms ≡ []
 not_none [] ms h e = h e
 not_none (l ∷ ls) ms h e = cc
 
--- there are levels to a node that is below an element
-pub levels_some : (st : BenchState) (r : Rest) (above : List Rest) → levels_at st (r ∷ above) ≡ [] → ⊥
-levels_some st r above = not_none (levels_at st above) (levels_of (tuple_at st r) (remains st r)) (through_some (tuple_at st r) (numbers_in (remains st r)))
+-- where all places are below a document node, none is empty
+all_places : (ps : List (List ℕ)) → list_all is_below_top ps ≡ true → ArePlaces ps
+all_places [] e = tt
+all_places ([] ∷ ps) e = cc
+all_places ((k ∷ p) ∷ ps) e = (omega arith, all_places ps e)
+
+-- no place that is kept is empty
+kept_formed : (ps : List (List ℕ)) → ArePlaces (kept_places ps)
+kept_formed ps = by_test (list_all is_below_top ps) refl
+  where
+    by_test : (t : Bool) → list_all is_below_top ps ≡ t → ArePlaces (cond t ps [])
+    by_test true e = all_places ps e
+    by_test false e = tt
+
+-- where no place is empty, all are below a document node
+all_below : (ps : List (List ℕ)) → ArePlaces ps → list_all is_below_top ps ≡ true
+all_below [] h = refl
+all_below ([] ∷ ps) h = (let z = h.0 in absurd (omega (arith, z)))
+all_below ((k ∷ p) ∷ ps) h = all_below ps h.1
+
+-- where no place is empty, all are kept
+kept_same : (ps : List (List ℕ)) → ArePlaces ps → kept_places ps ≡ ps
+kept_same ps h = ap (λ (t : Bool). cond t ps []) (all_below ps h)
+
+module _ (st : BenchState) where
+  -- a text says levels of a node that is below an element
+  said_some : (r : Rest) (above : List Rest) → said_levels st (r ∷ above) ≡ [] → ⊥
+  said_some r above = not_none (said_levels st above) (levels_of (kept_places (tuple_at st r)) (remains st r)) (through_some (kept_places (tuple_at st r)) (numbers_in (remains st r)))
+
+  -- a text says levels of a node above which something is kept
+  said_above : (a : Above) → said_levels st (rests a) ≡ [] → ⊥
+  said_above (Outer r top) = said_some r.value []
+  said_above (Inner' r top q up) = said_some r.value (rests up)
+
+  -- no place of the levels that a text says is empty
+  said_formed : (above : List Rest) → AllByRecursion (λ l. ArePlaces l.tuple) (said_levels st above)
+  said_formed [] = tt
+  said_formed (r ∷ above) =
+      each_both (λ l. ArePlaces l.tuple) (said_levels st above) (levels_of (kept_places (tuple_at st r)) (remains st r)) (said_formed above)
+      (through_formed (kept_places (tuple_at st r)) (kept_formed (tuple_at st r)) (numbers_in (remains st r)))
+
+  -- no place of the levels that the text of an identifier says is empty
+  node_places : (n : Site) (above : List Rest) → AllByRecursion (λ l. ArePlaces l.tuple) (levels_with st n above)
+  node_places Root above = tt
+  node_places (Inside s x) above = said_formed above
+  node_places (Item head r) above = said_formed (r.value ∷ above)
+
+  -- where the text of an identifier says no levels, it says no place below
+  node_root : (n : Site) (above : Option (Rc Above Global)) → levels_with st n (rests_above above) ≡ [] → inside_with st n (top_above above) ≡ []
+  node_root Root above e = refl
+  node_root (Inside s x) None e = refl
+  node_root (Inside s x) (Some a) e = absurd (said_above a.value e)
+  node_root (Item head r) above e = refl
+
+  -- what the text of an identifier says is formed
+  pub node_formed : (n : NodeId) → IsFormed (node (node_levels st n) (node_inside st n))
+  node_formed n = record { root = node_root n.site n.above; places = node_places n.site (rests_above n.above) }
 
 module _ (st : BenchState) (valid : IsValid (plan_value st.plan)) (typed : IsTyped (ops_of st)) (bench : IsBench st.world (ops_of st)) (y : IsTrue (told st)) where
   -- no place at the parts of a member's cursor is empty
@@ -119,13 +176,18 @@ module _ (st : BenchState) (valid : IsValid (plan_value st.plan)) (typed : IsTyp
       places_formed (documents st) (reached_at st m at).nodes (ops_of st) m
       (holder_evidence st valid typed bench y m at (hand_holder st valid typed bench y n c h v list has head (Group' op first number at place q up) i s)).0
 
-  -- no place of the levels to an element is empty
-  above_formed : {above : List Rest} {q : List ℕ} {n v : ℕ} {c : Position} {list : Listing} → IsOpen st above q n c v list → AllByRecursion (λ l. ArePlaces l.tuple) (levels_at st above)
-  above_formed (of_root h o row e has) = tt
-  above_formed (of_member {rests = rests} {n = n} {v = v} {c = c} {list = list} {head = head} {r = r} up i s j index own e has h) =
+  -- of the levels of a node from its list a text says all
+  list_said : (n : ℕ) (c : Position) → IsHolder st n c → (v : ℕ) (list : Listing) → HasList st n v list → (head : Head) (r : Rest) → IsRest st r → IsStanding st n c list head r
+      → levels_of (kept_places (tuple_at st r)) (remains st r) ≡ levels_of (tuple_at st r) (remains st r)
+  list_said n c h v list has head r i s = ap (λ (t : List (List ℕ)). levels_of t (remains st r)) (kept_same (tuple_at st r) (tuple_formed n c h v list has head r i s))
+
+  -- of the levels to an element a text says all
+  open_said : {above : List Rest} {q : List ℕ} {n v : ℕ} {c : Position} {list : Listing} → IsOpen st above q n c v list → said_levels st above ≡ levels_at st above
+  open_said (of_root h o row e has) = refl
+  open_said (of_member {rests = rests} {n = n} {v = v} {c = c} {list = list} {head = head} {r = r} up i s j index own e has h) =
       let x = open_holder st up in
-      each_both (λ l. ArePlaces l.tuple) (levels_at st rests) (levels_of (tuple_at st r) (remains st r)) (above_formed up)
-      (through_formed (tuple_at st r) (tuple_formed n c x.0 v list x.1 head r i s) (numbers_in (remains st r)))
+      ap (λ (ls : List LevelValue). ls ++ levels_of (kept_places (tuple_at st r)) (remains st r)) (open_said up)
+      ∙ ap (λ (ls : List LevelValue). levels_at st rests ++ ls) (list_said n c x.0 v list x.1 head r i s)
 
   module _ (above : List Rest) (head : Head) (r : Rest) (p : List ℕ) (i : IsItemAt st above head r p) where
     -- the levels to a node open the document to it
@@ -134,22 +196,24 @@ module _ (st : BenchState) (valid : IsValid (plan_value st.plan)) (typed : IsTyp
         subst (λ (q : List ℕ). Opens (documents st) (ops_of st) (levels_at st (r ∷ above)) q (reached_at st (hand_op st i.op r) (hand_at i.at r)) i.stands.piece) (sym i.place)
         (opens_to st valid typed bench y i.is_open head r i.rest i.stands i.index i.is_index)
 
-    -- the levels to a node, with a place that ends at it, name the node there
-    item_named : (way : List ℕ) → Ends (documents st) (ops_of st) (binding_at st (hand_op st i.op r) (hand_at i.at r)) i.stands.piece way
-        → NamesBy (documents st) (ops_of st) (levels_at st (r ∷ above)) way (p ++ way)
-    item_named way e = opened_named (documents st) (ops_of st) (levels_at st (r ∷ above)) p way (reached_at st (hand_op st i.op r) (hand_at i.at r)) i.stands.piece item_opens e
-
-    -- no place of the levels to a node is empty
-    item_formed : AllByRecursion (λ l. ArePlaces l.tuple) (levels_at st (r ∷ above))
-    item_formed =
+    -- of the levels to a node a text says all
+    item_said : said_levels st (r ∷ above) ≡ levels_at st (r ∷ above)
+    item_said =
         let x = open_holder st i.is_open in
-        each_both (λ l. ArePlaces l.tuple) (levels_at st above) (levels_of (tuple_at st r) (remains st r)) (above_formed i.is_open)
-        (through_formed (tuple_at st r) (tuple_formed i.op i.at x.0 i.var i.list x.1 head r i.rest i.stands) (numbers_in (remains st r)))
+        ap (λ (ls : List LevelValue). ls ++ levels_of (kept_places (tuple_at st r)) (remains st r)) (open_said i.is_open)
+        ∙ ap (λ (ls : List LevelValue). levels_at st above ++ ls) (list_said i.op i.at x.0 i.var i.list x.1 head r i.rest i.stands)
+
+    -- what a text says of a node, with a place that ends at it, names the node there
+    item_named : (way : List ℕ) → Ends (documents st) (ops_of st) (binding_at st (hand_op st i.op r) (hand_at i.at r)) i.stands.piece way
+        → NamesBy (documents st) (ops_of st) (said_levels st (r ∷ above)) way (p ++ way)
+    item_named way e =
+        subst (λ (ls : List LevelValue). NamesBy (documents st) (ops_of st) ls way (p ++ way)) (sym item_said)
+        (opened_named (documents st) (ops_of st) (levels_at st (r ∷ above)) p way (reached_at st (hand_op st i.op r) (hand_at i.at r)) i.stands.piece item_opens e)
 
   module _ (law : IsTolled st) (there : (t : LabelledTree) × (plan_document st ≡ Some t)) where
     -- what the text of a node inside a source says names it
     inside_named : (s : ℕ) (x : Spot) (above : List Rest) (top : Option Spot) (p : List ℕ) → ((t : LabelledTree) → plan_document st ≡ Some t → IsTrue (has_place (alone t) p)) → IsInsideAt st s x above top p
-        → NamesBy (documents st) (ops_of st) (levels_at st above) (place_from st s x top) p
+        → NamesBy (documents st) (ops_of st) (said_levels st above) (place_from st s x top) p
     inside_named s x above top p has i =
         let docs = documents st in
         let start = place_in st.world s i.spot in
@@ -160,9 +224,9 @@ module _ (st : BenchState) (valid : IsValid (plan_value st.plan)) (typed : IsTyp
         let below = place_below (tolled_at (tolled_document docs (ops_of st)) i.start) (kids_at docs (node_at st s i.spot)) i.kids (label_at docs (node_at st s i.spot)) i.way i.some item in
         let named = item_named i.outer (Whole s i.spot) i.rest i.start i.item i.way
         (inside_ends st (hand_op st i.item.op i.rest) (hand_at i.item.at i.rest) i.item.stands.piece s i.spot i.item.stands.tree i.way below) in
-        subst (λ (w : List ℕ). NamesBy docs (ops_of st) (levels_at st above) w p) (sym way)
-        (subst (λ (rs : List Rest). NamesBy docs (ops_of st) (levels_at st rs) i.way p) (sym i.is_above)
-        (subst (λ (q : List ℕ). NamesBy docs (ops_of st) (levels_at st (i.rest ∷ i.outer)) i.way q) (sym i.place) named))
+        subst (λ (w : List ℕ). NamesBy docs (ops_of st) (said_levels st above) w p) (sym way)
+        (subst (λ (rs : List Rest). NamesBy docs (ops_of st) (said_levels st rs) i.way p) (sym i.is_above)
+        (subst (λ (q : List ℕ). NamesBy docs (ops_of st) (said_levels st (i.rest ∷ i.outer)) i.way q) (sym i.place) named))
 
     -- what the text of a node says names it
     said_named : (n : Site) (above : List Rest) (top : Option Spot) (p : List ℕ) → ((t : LabelledTree) → plan_document st ≡ Some t → IsTrue (has_place (alone t) p)) → IsLedTo st n above top p
@@ -170,28 +234,9 @@ module _ (st : BenchState) (valid : IsValid (plan_value st.plan)) (typed : IsTyp
     said_named Root above top p has led = (refl, led)
     said_named (Inside s x) above top p has led = inside_named s x above top p has led
     said_named (Item head r) above top p has led =
-        subst (λ (q : List ℕ). NamesBy (documents st) (ops_of st) (levels_at st (r.value ∷ above)) [] q) (append-nil p)
+        subst (λ (q : List ℕ). NamesBy (documents st) (ops_of st) (said_levels st (r.value ∷ above)) [] q) (append-nil p)
         (item_named above head r.value p led [] (item_ends st (hand_op st led.op r.value) (hand_at led.at r.value) led.stands.piece head led.stands.tree))
 
     -- what the text of an identifier says names the node at its place
     pub node_named : (n : NodeId) (p : List ℕ) → IsAt st n p → Names (documents st) (ops_of st) (node (node_levels st n) (node_inside st n)) p
     node_named n p h = said_named n.site (rests_above n.above) (top_above n.above) p (h.place y) (h.above y)
-
-  -- no place in what the text of an identifier says is empty
-  said_formed : (n : Site) (above : List Rest) (top : Option Spot) (p : List ℕ) → IsLedTo st n above top p → AllByRecursion (λ l. ArePlaces l.tuple) (levels_with st n above)
-  said_formed Root above top p led = tt
-  said_formed (Inside s x) above top p i = subst (λ (rs : List Rest). AllByRecursion (λ l. ArePlaces l.tuple) (levels_at st rs)) (sym i.is_above) (item_formed i.outer (Whole s i.spot) i.rest i.start i.item)
-  said_formed (Item head r) above top p i = item_formed above head r.value p i
-
-  -- where the text of an identifier says no levels, it says no place below
-  said_root : (n : Site) (above : List Rest) (top : Option Spot) (p : List ℕ) → IsLedTo st n above top p → levels_with st n above ≡ [] → inside_with st n top ≡ []
-  said_root Root above top p led e = refl
-  said_root (Inside s x) above top p i e = absurd (levels_some st i.rest i.outer (ap (levels_at st) (sym i.is_above) ∙ e))
-  said_root (Item head r) above top p i e = refl
-
-  -- what the text of an identifier says is formed
-  pub node_formed : (n : NodeId) (p : List ℕ) → IsAt st n p → IsFormed (node (node_levels st n) (node_inside st n))
-  node_formed n p h = record {
-    root = said_root n.site (rests_above n.above) (top_above n.above) p (h.above y);
-    places = said_formed n.site (rests_above n.above) (top_above n.above) p (h.above y);
-  }

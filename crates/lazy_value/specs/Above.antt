@@ -12,7 +12,7 @@ use Rattle.lazy_binding.specs.World.{place_in}
 use Rattle.lazy_binding.specs.declared.position.Position.{Position}
 use Rattle.lazy_plan.specs.Bench.{BenchState, ops_of, documents, binding_at, IsSpotAt}
 use Rattle.lazy_value.specs.Ids.{head_trees, IsRest}
-use Rattle.lazy_value.specs.Levels.{levels_at, IsOpen}
+use Rattle.lazy_value.specs.Levels.{said_levels, IsOpen}
 use Rattle.lazy_value.specs.Standing.{remains, AreBelow, IsStanding}
 use Rattle.lazy_value.specs.declared.ids.Above.{Above, Outer, Inner'}
 use Rattle.lazy_value.specs.declared.ids.Head.{Head}
@@ -121,8 +121,8 @@ IsLedTo st (Item head rest) above top p = IsItemAt st above head rest.value p
 -- the levels to a node with these rests above it, or to the top of the subtree of a source in which it lies
 abbrev pub levels_with : BenchState → Site → List Rest → List LevelValue
 levels_with st Root above = []
-levels_with st (Inside s x) above = levels_at st above
-levels_with st (Item head rest) above = levels_at st (rest.value ∷ above)
+levels_with st (Inside s x) above = said_levels st above
+levels_with st (Item head rest) above = said_levels st (rest.value ∷ above)
 
 -- the place of a spot of source s, counted from another one above it, where there is one
 abbrev pub place_from : BenchState → ℕ → Spot → Option Spot → List ℕ

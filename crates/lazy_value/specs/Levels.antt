@@ -1,6 +1,6 @@
 -- The levels of an identifier's text, by what is left after each element on the way to it.
-use Rattle.std.specs.Prelude.{◌≡◌, ℕ, suc, IsTrue, Some, None, List, [], ◌∷◌, ◌++◌}
-use Rattle.std.specs.List.{last_or}
+use Rattle.std.specs.Prelude.{◌≡◌, ℕ, suc, Bool, true, false, cond, IsTrue, Some, None, List, [], ◌∷◌, ◌++◌}
+use Rattle.std.specs.List.{last_or, list_all}
 use Rattle.mix_base.specs.Events.{found}
 use Rattle.lxp_core.specs.View.{View}
 use Rattle.node_text.specs.Node.{LevelValue}
@@ -43,6 +43,20 @@ tuple_at st (Group' op first number at place q up) = tuple_of st (input_at (ops_
 abbrev pub levels_at : BenchState → List Rest → List LevelValue
 levels_at st [] = []
 levels_at st (r ∷ rests) = levels_at st rests ++ levels_of (tuple_at st r) (remains st r)
+
+-- whether a place is not that of the document node
+abbrev pub is_below_top : List ℕ → Bool
+is_below_top [] = false
+is_below_top (k ∷ place) = true
+
+-- the places of a tuple; none where one of them is that of a document node, at which no getDescendants finds a node
+abbrev pub kept_places : List (List ℕ) → List (List ℕ)
+kept_places places = cond (list_all is_below_top places) places []
+
+-- the levels that a text says of a node, by what is left after it and after each element on the way to it, the innermost first
+abbrev pub said_levels : BenchState → List Rest → List LevelValue
+said_levels st [] = []
+said_levels st (r ∷ rests) = said_levels st rests ++ levels_of (kept_places (tuple_at st r)) (remains st r)
 
 -- how many lists are left, one around another
 abbrev pub lists_in : Rest → ℕ

@@ -1,6 +1,6 @@
 // What the text of an identifier says: the levels that lead to its node, by what is left of the lists on the way there, and the place below.
 ghost use Rattle.std.specs.Prelude.{◌≡◌, ◌++◌, [], IfOk, OnOk, drop, length, map};
-ghost use Rattle.std.specs.List.{AllByRecursion};
+ghost use Rattle.std.specs.List.{AllByRecursion, list_all};
 ghost use Rattle.lazy_binding.specs.World.{place_in};
 ghost use Rattle.lazy_plan.specs.Bench.{BenchState, IsSpotAt};
 ghost use Rattle.node_text.specs.Node.{level};
@@ -8,7 +8,7 @@ ghost use Rattle.plan_evidence.specs.Remains.{levels_of, numbers_in};
 ghost use Rattle.lazy_value.specs.Above.{node_inside, node_levels, rests, rests_above, top_above};
 ghost use Rattle.lazy_value.specs.Calls.{InEach, InSome};
 ghost use Rattle.lazy_value.specs.Ids.{IsRest};
-ghost use Rattle.lazy_value.specs.Levels.{levels_at, tuple_at};
+ghost use Rattle.lazy_value.specs.Levels.{is_below_top, kept_places, said_levels, tuple_at};
 ghost use Rattle.lazy_value.specs.Places.{IsNode};
 ghost use Rattle.lazy_value.specs.Standing.{remains};
 
@@ -72,6 +72,30 @@ fn push_last(
     }
 }
 
+/// Whether each of some places is below that of a document node.
+fn are_below(places: &[Place]) -> bool
+    ensures { result ≡ list_all is_below_top places.now }
+{
+    for place in places {
+        if place.steps().is_empty() {
+            return false;
+        }
+    }
+    true
+}
+
+/// Some places; none where one of them is that of a document node. What a getDescendants finds is below one, but over sources that don't tell their
+/// documents no clause says so.
+fn kept(alloc: Global, places: Vec<Place>) -> Vec<Place>
+    ensures { result.items ≡ kept_places places.items }
+{
+    if are_below(&places) {
+        places
+    } else {
+        Vec::new(alloc)
+    }
+}
+
 /// The places by which the node before what is left of a list is told from the others of its piece.
 fn tuple_before(alloc: Global, bench: &Bench, rest: &Rc<Rest>) -> Result<Vec<Place>, AllocError>
     requires { InSome bench.now (λ st. IsRest st rest.now.value) }
@@ -97,11 +121,11 @@ fn with_list(
 ) -> Result<Vec<Level>, AllocError>
     requires { InSome bench.now (λ st. IsRest st rest.now.value) }
     ensures { IfOk result (λ all. InEach bench.now (λ st. let r = rest.now.value in
-        IsRest st r → all.items ≡ levels.items ++ levels_of (tuple_at st r) (remains st r))) }
+        IsRest st r → all.items ≡ levels.items ++ levels_of (kept_places (tuple_at st r)) (remains st r))) }
 {
     let mut levels = levels;
     let tuple = tuple_before(alloc, bench, rest)?;
-    push_last(alloc, rest, tuple, &mut levels)?;
+    push_last(alloc, rest, kept(alloc, tuple), &mut levels)?;
     Ok(levels)
 }
 
@@ -109,7 +133,7 @@ fn with_list(
 fn levels_to(alloc: Global, bench: &Bench, above: &Rc<Above>) -> Result<Vec<Level>, AllocError>
     requires { InSome bench.now (λ st. AllByRecursion (IsRest st) (rests above.now.value)) }
     ensures { IfOk result (λ levels. InEach bench.now (λ st. let rests = rests above.now.value in
-        AllByRecursion (IsRest st) rests → levels.items ≡ levels_at st rests)) }
+        AllByRecursion (IsRest st) rests → levels.items ≡ said_levels st rests)) }
 {
     let above: &Above = above;
     match above {
@@ -129,7 +153,7 @@ fn levels_above(
 ) -> Result<Vec<Level>, AllocError>
     requires { InSome bench.now (λ st. AllByRecursion (IsRest st) (rests_above above.now)) }
     ensures { IfOk result (λ levels. InEach bench.now (λ st. let rests = rests_above above.now in
-        AllByRecursion (IsRest st) rests → levels.items ≡ levels_at st rests)) }
+        AllByRecursion (IsRest st) rests → levels.items ≡ said_levels st rests)) }
 {
     match above {
         None => Ok(Vec::new(alloc)),

@@ -25,11 +25,8 @@ returns-clause-names c =
 
 pub returns-clause-formed : goal.returns-clause-formed
 returns-clause-formed c =
-    λ view h p at y.
-    (let st = state_of view c.args.self.now in
+    let m = c.requires.node in
+    let st = state_of m.0 c.args.self.now in
     let n = c.args.n.now in
-    let said = node_formed st h.valid h.fixed.typed h.bench y n p at in
-    let levels = c.in_ok-levels.ensures view h at.node in
-    let inside = c.in_ok-inside.ensures view h at.node in
-    subst (λ (ls : List LevelValue). IsFormed (node ls c.in_ok-inside.inside)) (sym levels)
-    (subst (λ (q : List ℕ). IsFormed (node (node_levels st n) q)) (sym inside) said))
+    subst (λ (ls : List LevelValue). IsFormed (node ls c.in_ok-inside.inside)) (sym (c.in_ok-levels.ensures m.0 m.1 m.2))
+    (subst (λ (q : List ℕ). IsFormed (node (node_levels st n) q)) (sym (c.in_ok-inside.ensures m.0 m.1 m.2)) (node_formed st n))
