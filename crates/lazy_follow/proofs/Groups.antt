@@ -1,0 +1,53 @@
+-- Evidence of members, from call to call.
+use Rattle.std.proofs.Common.{◌≡◌, ◌∙◌, ℕ, suc, ◌<◌, List, sym, ap, subst, length}
+use Rattle.std.specs.Prelude.{Bool}
+use Rattle.mix_tree.specs.Nodes.{Documents, Node}
+use Rattle.mix_tree.specs.declared.var.Key.{Key}
+use Rattle.plan_core.specs.declared.plan.Plan.{Plan}
+use Rattle.plan_core.specs.ByNumber.{op_at}
+use Rattle.plan_core.specs.PlanMade.{plan_value}
+use Rattle.plan_core.specs.Plans.{PlanValue}
+use Rattle.plan_core.specs.TolledRows.{same_values}
+use Rattle.plan_core.specs.Valid.{IsValid}
+use Rattle.plan_evidence.specs.Evidence.{evidence_vars, IsEvidence}
+use Rattle.plan_evidence.specs.Held.{node_values}
+use Rattle.plan_forms.specs.Forms.{input_at, keys_of}
+use Rattle.lazy_plan.specs.Bench.{BenchState, ops_of, documents, KeepsBench}
+use Rattle.lazy_seek.specs.Evidenced.{AreSpotsOf}
+use Rattle.lazy_seek.specs.Given.{given}
+use Rattle.lazy_seek.proofs.Agreeing.{given_holds}
+use Rattle.lazy_seek.proofs.Drafts.{places_given}
+use Rattle.lazy_seek.proofs.Knowing.{spots_on}
+use Rattle.lazy_seek.proofs.Wholes.{evidence_length}
+use Rattle.lazy_follow.specs.declared.evidence.Evidence.{Evidence}
+use Rattle.lazy_follow.specs.Spotted.{IsSpotted, nodes_of}
+
+-- where places are those of right evidence, the nodes that they give are right evidence
+pub given_evidence : (p : PlanValue) → IsValid p → (docs : Documents) (n : ℕ) → n < length p.ops → (places : List (List ℕ)) (nodes : ℕ → Node) → IsEvidence docs p.ops n places nodes
+    → IsEvidence docs p.ops n places (given p.ops n places)
+given_evidence p valid docs n within places nodes is =
+    let full = evidence_length docs p.ops n places nodes is in
+    record { right = λ i b o. given_holds p valid n within places full docs nodes is i b o; written = places_given p valid n within places full }
+
+module _ (a b : BenchState) (kept : KeepsBench a b) where
+  -- the spots of evidence stay
+  pub spotted_on : (places : List (List ℕ)) (e : Evidence) → IsSpotted a places e → IsSpotted b places e
+  spotted_on places e h = record {
+    within = subst (λ (q : Plan). suc e.op < length (plan_value q).ops) (sym kept.plan) h.within;
+    vars = subst (λ (q : Plan). e.vars.items ≡ evidence_vars (plan_value q).ops e.op) (sym kept.plan) h.vars;
+    spots =
+        subst (λ (q : Plan). AreSpotsOf b (given (plan_value q).ops e.op places) e.vars.items e.spots.items) (sym kept.plan)
+        (spots_on a b kept (nodes_of a places e) e.vars.items e.spots.items h.spots);
+  }
+
+  -- whether the evidence at hand agrees with other evidence by the keys of a groupBy stays
+  pub agreement_on : (op m n : ℕ) (places others : List (List ℕ)) (keys : List Key) → keys ≡ keys_of (op_at (ops_of b) op) → n ≡ input_at (ops_of a) op
+      → same_values (node_values (documents b) keys (given (ops_of b) m places)) (node_values (documents b) keys (given (ops_of b) n others))
+      ≡ same_values (node_values (documents a) (keys_of (op_at (ops_of a) op)) (given (ops_of a) m places))
+      (node_values (documents a) (keys_of (op_at (ops_of a) op)) (given (ops_of a) (input_at (ops_of a) op) others))
+  agreement_on op m n places others keys e f =
+      let same : Documents → Plan → List Key → ℕ → Bool =
+      λ d q ks i. same_values (node_values d ks (given (plan_value q).ops m places)) (node_values d ks (given (plan_value q).ops i others)) in
+      ap (λ (d : Documents). same d b.plan keys n) kept.documents ∙ ap (λ (q : Plan). same (documents a) q keys n) kept.plan
+      ∙ ap (λ (ks : List Key). same (documents a) a.plan ks n) (e ∙ ap (λ (q : Plan). keys_of (op_at (plan_value q).ops op)) kept.plan)
+      ∙ ap (λ (i : ℕ). same (documents a) a.plan (keys_of (op_at (ops_of a) op)) i) f

@@ -1,0 +1,5 @@
+pub mod Agreements
+pub mod Choices
+pub mod Groups
+pub mod Nodes
+pub mod OnWay

@@ -1,0 +1,5 @@
+pub mod Choosing
+pub mod Following
+pub mod Members
+pub mod Spotted
+pub mod Way
