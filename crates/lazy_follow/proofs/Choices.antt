@@ -20,7 +20,7 @@ use Rattle.plan_core.specs.Plans.{Operator, source, get_descendants, join, over,
 use Rattle.plan_core.specs.Unary.{select, order_by, project, group_by, concatenate, create_element}
 use Rattle.plan_core.specs.Shapes.{shape_of, shape_at}
 use Rattle.plan_core.specs.Typed.{IsTyped}
-use Rattle.plan_core.specs.Valid.{Kind, a_list, Kinds, kinds, outs_of, IsFit, inputs_of, IsPiece, IsSinglePiece, IsValid}
+use Rattle.plan_core.specs.Valid.{Kind, a_list, AreNodes, Kinds, kinds, outs_of, IsFit, inputs_of, IsPiece, IsSinglePiece, IsValid}
 use Rattle.plan_core.proofs.Groups.{fit_group}
 use Rattle.plan_evidence.specs.Named.{Listing, of_pieces, of_group, maker, listing, element_list, list_of}
 use Rattle.plan_evidence.proofs.Makers.{number_of, number_low}
@@ -233,3 +233,16 @@ pub there_chosen : (ops : List Operator) (l : Listing) (pieces : List Piece) (le
 there_chosen ops l pieces level e i q h =
     ap (λ (x : Listing). choice ops x level) (some_is l (of_pieces pieces) e)
     ∙ ap (piece_choice ops level.tuple) (ap (slice_get pieces) (sym q) ∙ sym (get_there pieces i (text_piece []) h))
+
+-- the keys of an operator are of nodes that its input binds
+pub keys_there : (o : Operator) (of : ℕ → Kinds) → IsFit o of → AreNodes (keys_of o) (of (input_of o))
+keys_there (source s out) of fit = λ v e. cc
+keys_there (get_descendants i start path out) of fit = λ v e. cc
+keys_there (join l r tests) of fit = λ v e. cc
+keys_there (over i (select test)) of fit = λ v e. cc
+keys_there (over i (order_by u desc)) of fit = λ v e. cc
+keys_there (over i (project keys)) of fit = λ v e. cc
+keys_there (over i (group_by keys piece out)) of fit = (fit_group keys piece out (of i) fit).0
+keys_there (over i (concatenate pieces out)) of fit = λ v e. cc
+keys_there (over i (create_element label list out)) of fit = λ v e. cc
+keys_there (tuple_destroy i made) of fit = λ v e. cc

@@ -1,6 +1,7 @@
 -- Evidence of members, from call to call.
-use Rattle.std.proofs.Common.{◌≡◌, ◌∙◌, ℕ, suc, ◌<◌, List, sym, ap, subst, length}
+use Rattle.std.proofs.Common.{◌≡◌, ◌∙◌, ℕ, suc, ◌<◌, List, sym, ap, subst, length, Some}
 use Rattle.std.specs.Prelude.{Bool}
+use Rattle.node_text.specs.Node.{LevelValue}
 use Rattle.mix_tree.specs.Nodes.{Documents, Node}
 use Rattle.mix_tree.specs.declared.var.Key.{Key}
 use Rattle.plan_core.specs.declared.plan.Plan.{Plan}
@@ -8,10 +9,13 @@ use Rattle.plan_core.specs.ByNumber.{op_at}
 use Rattle.plan_core.specs.PlanMade.{plan_value}
 use Rattle.plan_core.specs.Plans.{PlanValue}
 use Rattle.plan_core.specs.TolledRows.{same_values}
-use Rattle.plan_core.specs.Valid.{IsValid}
+use Rattle.plan_core.specs.Shapes.{shape_at}
+use Rattle.plan_core.specs.Typed.{IsTyped}
+use Rattle.plan_core.specs.Valid.{kinds, IsValid}
 use Rattle.plan_evidence.specs.Evidence.{evidence_vars, IsEvidence}
 use Rattle.plan_evidence.specs.Held.{node_values}
-use Rattle.plan_forms.specs.Forms.{input_at, keys_of}
+use Rattle.plan_evidence.specs.Named.{Listing, listing}
+use Rattle.plan_forms.specs.Forms.{input_at, keys_of, piece_of}
 use Rattle.lazy_plan.specs.Bench.{BenchState, ops_of, documents, KeepsBench}
 use Rattle.lazy_seek.specs.Evidenced.{AreSpotsOf}
 use Rattle.lazy_seek.specs.Given.{given}
@@ -20,6 +24,13 @@ use Rattle.lazy_seek.proofs.Drafts.{places_given}
 use Rattle.lazy_seek.proofs.Knowing.{spots_on}
 use Rattle.lazy_seek.proofs.Wholes.{evidence_length}
 use Rattle.lazy_follow.specs.declared.evidence.Evidence.{Evidence}
+use Rattle.lazy_follow.specs.declared.choosing.Chosen.{Chosen}
+use Rattle.lazy_follow.specs.declared.members.Group.{Group}
+use Rattle.lazy_follow.specs.Choosing.{MakesGroups, IsChosen}
+use Rattle.lazy_follow.specs.Following.{a_member, choice}
+use Rattle.lazy_follow.specs.Levels.{IsListIn}
+use Rattle.lazy_follow.specs.Members.{IsGroup}
+use Rattle.lazy_follow.proofs.Choices.{piece_input, keys_there}
 use Rattle.lazy_follow.specs.Spotted.{IsSpotted, nodes_of}
 
 -- where places are those of right evidence, the nodes that they give are right evidence
@@ -51,3 +62,21 @@ module _ (a b : BenchState) (kept : KeepsBench a b) where
       ap (λ (d : Documents). same d b.plan keys n) kept.documents ∙ ap (λ (q : Plan). same (documents a) q keys n) kept.plan
       ∙ ap (λ (ks : List Key). same (documents a) a.plan ks n) (e ∙ ap (λ (q : Plan). keys_of (op_at (plan_value q).ops op)) kept.plan)
       ∙ ap (λ (i : ℕ). same (documents a) a.plan (keys_of (op_at (ops_of a) op)) i) f
+
+-- what the code chose of a list is what a level chooses, whichever name the plan has
+pub chosen_of : (q p : Plan) → q ≡ p → (op : ℕ) (l : Listing) (level : LevelValue) (r r' : Chosen) → r ≡ r' → listing (shape_at (plan_value p).ops op) ≡ Some l
+    → (listing (shape_at (plan_value q).ops op) ≡ Some l → IsChosen (plan_value q).ops r (choice (plan_value q).ops l level)) → IsChosen (plan_value p).ops r' (choice (plan_value p).ops l level)
+chosen_of q p e op l level r r' is h f =
+    subst (λ (c : Chosen). IsChosen (plan_value p).ops c (choice (plan_value p).ops l level)) is
+    (subst (λ (x : Plan). IsChosen (plan_value x).ops r (choice (plan_value x).ops l level)) e (f (subst (λ (x : Plan). listing (shape_at (plan_value x).ops op) ≡ Some l) (sym e) h)))
+
+-- the group of which a level chooses a member
+pub group_of : (st : BenchState) (places : List (List ℕ)) (from : Group) (level : LevelValue) (h : IsListIn st places from level) → IsTyped (ops_of st) → (n : ℕ) → MakesGroups (ops_of st) n
+    → choice (ops_of st) h.list level ≡ a_member (input_at (ops_of st) n) (keys_of (op_at (ops_of st) n)) (piece_of (ops_of st) n) → IsGroup st places (record { op = n; here = from.here })
+group_of st places from level h typed n m e = record {
+  here = h.here;
+  within = m.within;
+  low = piece_input (op_at (ops_of st) n) 0 n m.has_piece.there (typed.inputs n m.within);
+  nodes_here = h.keys (input_at (ops_of st) n) (keys_of (op_at (ops_of st) n)) (piece_of (ops_of st) n) e;
+  nodes_there = keys_there (op_at (ops_of st) n) (kinds (ops_of st)) (typed.fit n m.within);
+}

@@ -1,5 +1,6 @@
 pub mod Choosing
 pub mod Following
+pub mod Levels
 pub mod Members
 pub mod Spotted
 pub mod Way

@@ -1,5 +1,5 @@
 -- Members of groups by their evidence.
-use Rattle.std.specs.Prelude.{◌≡◌, ◌<◌, ℕ, suc, IsTrue, List, Option, MatchOption, length}
+use Rattle.std.specs.Prelude.{◌≡◌, ◌<◌, ℕ, IsTrue, List, Option, MatchOption, length}
 use Rattle.plan_core.specs.ByNumber.{op_at}
 use Rattle.plan_core.specs.Valid.{kinds, AreNodes}
 use Rattle.plan_forms.specs.Forms.{input_at, keys_of}
@@ -12,7 +12,7 @@ use Rattle.lazy_follow.specs.Spotted.{IsSpotted}
 -- a group of groupBy op in a binding, by evidence of that binding: the operators of both bind its keys' variables to nodes
 pub record IsGroup (st : BenchState) (places : List (List ℕ)) (g : Group) : Type 0 where
   pub here : IsSpotted st places g.here.now
-  pub within : suc g.op < length (ops_of st)
+  pub within : g.op < length (ops_of st)
   pub low : input_at (ops_of st) g.op < g.op
   pub nodes_here : AreNodes (keys_of (op_at (ops_of st) g.op)) (kinds (ops_of st) g.here.now.op)
   pub nodes_there : AreNodes (keys_of (op_at (ops_of st) g.op)) (kinds (ops_of st) (input_at (ops_of st) g.op))

@@ -4,9 +4,11 @@
 mod agreeing;
 mod choosing;
 mod evidence;
+mod levels;
 mod members;
 mod way;
 
 pub use agreeing::agrees;
 pub use evidence::Evidence;
+pub use levels::{Led, follow_level};
 pub use members::{Group, member};
