@@ -3,3 +3,4 @@ pub mod Choices
 pub mod Groups
 pub mod Nodes
 pub mod OnWay
+pub mod Staying

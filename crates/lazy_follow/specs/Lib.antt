@@ -1,6 +1,7 @@
 pub mod Choosing
 pub mod Following
 pub mod Levels
+pub mod Marks
 pub mod Members
 pub mod Spotted
 pub mod Way
