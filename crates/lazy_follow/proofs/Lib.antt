@@ -3,4 +3,5 @@ pub mod Choices
 pub mod Groups
 pub mod Nodes
 pub mod OnWay
+pub mod Scopes
 pub mod Staying

@@ -79,7 +79,7 @@ stage_only input i (in_order v desc) (inl e) = e
 stage_only input i (in_order v desc) (inr a) = absurd a
 
 -- a stage binds no node anew
-stage_no_node : (stage : Stage) (ks : Kinds) (v : ℕ) → Among v (stage_outs stage) → stage_kinds stage ks v ≡ Some a_node → ⊥
+pub stage_no_node : (stage : Stage) (ks : Kinds) (v : ℕ) → Among v (stage_outs stage) → stage_kinds stage ks v ≡ Some a_node → ⊥
 stage_no_node (filters test) ks v a k = a
 stage_no_node (extends out made) ks v (inl c) k = made_is_no_node made (with_is out v (made_kind made) ks c k)
 stage_no_node (extends out made) ks v (inr c) k = c
