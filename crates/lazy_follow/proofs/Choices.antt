@@ -1,6 +1,6 @@
 -- What operators bind anew, list and are made of, as levels choose by it.
 use Rattle.std.proofs.Common.{◌≡◌, ℕ, zero, suc, ◌<◌, ◌≤◌, true, false, cond, List, [], ◌∷◌, Option, Some, None, refl, sym, ap, subst, ◌∙◌, arith, length}
-use Rattle.std.specs.Prelude.{Bool, ◌==◌, slice_get, slice_index_or}
+use Rattle.std.specs.Prelude.{Bool, ◌==◌, IfSome, slice_get, slice_index_or}
 use Rattle.std.specs.List.{AllByRecursion, list_any}
 use Rattle.std.proofs.lemmas.Bool.{eqb-true}
 use Rattle.std.proofs.lemmas.Bool.Decides.{nat_tests}
@@ -192,6 +192,12 @@ piece_under p typed n index v h e =
     let k = piece_bound (op_at p.ops n) (kinds p.ops) index v (typed.fit n h.within) h.there h.written e in
     (input_at p.ops n, k.0, piece_input (op_at p.ops n) index n h.there (typed.inputs n h.within), k.1)
 
+-- the variable of a piece is bound by the input of its operator
+pub piece_bound_in : (p : PlanValue) → IsTyped p.ops → (n index v : ℕ) → HasPiece p.ops n index → piece_at p.ops n index ≡ var_piece v → (k : Kind) × (input_at p.ops n < n) × (kinds p.ops (input_at p.ops n) v ≡ Some k)
+piece_bound_in p typed n index v h e =
+    (let k = piece_bound (op_at p.ops n) (kinds p.ops) index v (typed.fit n h.within) h.there h.written e in
+    (k.0, piece_input (op_at p.ops n) index n h.there (typed.inputs n h.within), k.1))
+
 -- the list of an element is bound below its operator
 pub element_under : (p : PlanValue) → IsTyped p.ops → (n input : ℕ) (label : List ℕ) (list out : ℕ) → n < length p.ops → op_at p.ops n ≡ over input (create_element label list out) → IsBoundBelow p.ops n list
 element_under p typed n input label list out b e =
@@ -246,3 +252,8 @@ keys_there (over i (group_by keys piece out)) of fit = (fit_group keys piece out
 keys_there (over i (concatenate pieces out)) of fit = λ v e. cc
 keys_there (over i (create_element label list out)) of fit = λ v e. cc
 keys_there (tuple_destroy i made) of fit = λ v e. cc
+
+-- what holds of a value that is there holds as what follows from it
+pub some_at : (r : Option ℕ) (P Q : ℕ → Type 0) → ((n : ℕ) → P n → Q n) → IfSome r P → IfSome r Q
+some_at None P Q f h = tt
+some_at (Some n) P Q f h = f n h

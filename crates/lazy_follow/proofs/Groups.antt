@@ -1,5 +1,5 @@
 -- Evidence of members, from call to call.
-use Rattle.std.proofs.Common.{◌≡◌, ◌∙◌, ℕ, suc, ◌<◌, List, sym, ap, subst, length, Some}
+use Rattle.std.proofs.Common.{◌≡◌, ◌∙◌, ℕ, suc, ◌<◌, List, sym, ap, subst, length, Some, refl}
 use Rattle.std.specs.Prelude.{Bool}
 use Rattle.node_text.specs.Node.{LevelValue}
 use Rattle.mix_tree.specs.Nodes.{Documents, Node}
@@ -11,7 +11,7 @@ use Rattle.plan_core.specs.Plans.{PlanValue}
 use Rattle.plan_core.specs.TolledRows.{same_values}
 use Rattle.plan_core.specs.Shapes.{shape_at}
 use Rattle.plan_core.specs.Typed.{IsTyped}
-use Rattle.plan_core.specs.Valid.{kinds, IsValid}
+use Rattle.plan_core.specs.Valid.{a_node, kinds, IsValid}
 use Rattle.plan_evidence.specs.Evidence.{evidence_vars, IsEvidence}
 use Rattle.plan_evidence.specs.Held.{node_values}
 use Rattle.plan_evidence.specs.Named.{Listing, listing}
@@ -26,11 +26,14 @@ use Rattle.lazy_seek.proofs.Wholes.{evidence_length}
 use Rattle.lazy_follow.specs.declared.evidence.Evidence.{Evidence}
 use Rattle.lazy_follow.specs.declared.choosing.Chosen.{Chosen}
 use Rattle.lazy_follow.specs.declared.members.Group.{Group}
-use Rattle.lazy_follow.specs.Choosing.{MakesGroups, IsChosen}
+use Rattle.lazy_follow.specs.Choosing.{MakesGroups, IsChosen, IsScope}
 use Rattle.lazy_follow.specs.Following.{a_member, choice}
 use Rattle.lazy_follow.specs.Levels.{IsListIn}
 use Rattle.lazy_follow.specs.Members.{IsGroup}
 use Rattle.lazy_follow.proofs.Choices.{piece_input, keys_there}
+use Rattle.lazy_follow.specs.Scope.{InScope}
+use Rattle.lazy_follow.proofs.Scopes.{keys_here}
+use Rattle.plan_core.proofs.Typed.{valid_is_typed}
 use Rattle.lazy_follow.specs.Spotted.{IsSpotted, nodes_of}
 
 -- where places are those of right evidence, the nodes that they give are right evidence
@@ -70,13 +73,19 @@ chosen_of q p e op l level r r' is h f =
     subst (λ (c : Chosen). IsChosen (plan_value p).ops c (choice (plan_value p).ops l level)) is
     (subst (λ (x : Plan). IsChosen (plan_value x).ops r (choice (plan_value x).ops l level)) e (f (subst (λ (x : Plan). listing (shape_at (plan_value x).ops op) ≡ Some l) (sym e) h)))
 
+-- what the code chose of a list stands in its scope, whichever name the plan has
+pub scope_of : (q p : Plan) → q ≡ p → (op : ℕ) (r r' : Chosen) → r ≡ r' → IsScope (plan_value q).ops op r → IsScope (plan_value p).ops op r'
+scope_of q p e op r r' is h = subst (λ (c : Chosen). IsScope (plan_value p).ops op c) is (subst (λ (x : Plan). IsScope (plan_value x).ops op r) e h)
+
 -- the group of which a level chooses a member
-pub group_of : (st : BenchState) (places : List (List ℕ)) (from : Group) (level : LevelValue) (h : IsListIn st places from level) → IsTyped (ops_of st) → (n : ℕ) → MakesGroups (ops_of st) n
-    → choice (ops_of st) h.list level ≡ a_member (input_at (ops_of st) n) (keys_of (op_at (ops_of st) n)) (piece_of (ops_of st) n) → IsGroup st places (record { op = n; here = from.here })
-group_of st places from level h typed n m e = record {
-  here = h.here;
-  within = m.within;
-  low = piece_input (op_at (ops_of st) n) 0 n m.has_piece.there (typed.inputs n m.within);
-  nodes_here = h.keys (input_at (ops_of st) n) (keys_of (op_at (ops_of st) n)) (piece_of (ops_of st) n) e;
-  nodes_there = keys_there (op_at (ops_of st) n) (kinds (ops_of st)) (typed.fit n m.within);
-}
+pub group_of : (st : BenchState) (places : List (List ℕ)) (from : Group) → IsValid (plan_value st.plan) → IsListIn st places from → (n : ℕ) → MakesGroups (ops_of st) n → InScope (ops_of st) from.op n
+    → IsGroup st places (record { op = n; here = from.here })
+group_of st places from valid h n m scope =
+    let typed : IsTyped (ops_of st) = valid_is_typed (plan_value st.plan) valid in
+    record {
+      here = h.here;
+      within = m.within;
+      low = piece_input (op_at (ops_of st) n) 0 n m.has_piece.there (typed.inputs n m.within);
+      nodes_here = λ v t. h.scope v a_node (scope v a_node (keys_here (plan_value st.plan) valid typed n m.within (op_at (ops_of st) n) refl v t));
+      nodes_there = keys_there (op_at (ops_of st) n) (kinds (ops_of st)) (typed.fit n m.within);
+    }

@@ -1,6 +1,7 @@
 -- What an operator binds, where it binds a list or an element that an operator below made, it binds as that one does.
 use Rattle.std.proofs.Common.{◌≡◌, ◌⊎◌, inl, inr, ℕ, zero, suc, ◌<◌, true, false, cond, List, [], ◌∷◌, Option, Some, None, refl, sym, ap, subst, ◌∙◌, arith, length}
-use Rattle.std.specs.Prelude.{Bool, ◌==◌}
+use Rattle.std.specs.Prelude.{Bool, ◌==◌, IfSome}
+use Rattle.std.specs.List.{list_any}
 use Rattle.std.proofs.lemmas.Bool.{eqb-true}
 use Rattle.std.proofs.lemmas.Bool.Decides.{nat_tests}
 use Rattle.mix_base.proofs.Choices.{some_is, none_some}
@@ -9,14 +10,18 @@ use Rattle.mix_tree.specs.Keys.{has_var}
 use Rattle.mix_tree.specs.declared.comparing.Test.{Test}
 use Rattle.mix_tree.specs.declared.var.Key.{Key}
 use Rattle.plan_core.specs.declared.plan.Piece.{Piece}
-use Rattle.plan_core.specs.Plans.{PlanValue}
-use Rattle.plan_core.specs.Shapes.{Stage, filters, extends, first_by_keys, one_group, in_order, Shape, one_source, visits_below, pairs_up, passes_on, no_events, shape_at}
+use Rattle.plan_core.specs.ByNumber.{op_at}
+use Rattle.plan_core.specs.Plans.{Operator, source, get_descendants, join, over, tuple_destroy, PlanValue}
+use Rattle.plan_core.specs.Unary.{select, order_by, project, group_by, concatenate, create_element}
+use Rattle.plan_core.specs.Shapes.{a_list_of, an_element_of, Stage, filters, extends, first_by_keys, one_group, in_order, Shape, one_source, visits_below, pairs_up, passes_on, no_events, shape_of, shape_at}
 use Rattle.plan_core.specs.Typed.{IsTyped}
-use Rattle.plan_core.specs.Valid.{Kind, a_node, a_list, Kinds, no_kinds, with_kind, kept, made_kind, either_kind, AreNodes, IsStageFit, IsShapeFit, shape_kinds, shape_inputs, shape_outs, kinds, IsValid}
+use Rattle.plan_core.specs.Valid.{Kind, a_node, a_list, Kinds, no_kinds, with_kind, kept, made_kind, either_kind, AreNodes, IsStageFit, IsShapeFit, shape_kinds, shape_inputs, shape_outs, outs_of, IsFit, kinds, IsValid}
 use Rattle.plan_core.proofs.Fresh.{bound_once, smaller, kinds-is, sides_fresh}
+use Rattle.plan_evidence.specs.Named.{maker}
 use Rattle.plan_evidence.proofs.Evident.{way_bound}
 use Rattle.plan_evidence.proofs.HeldApart.{anew}
-use Rattle.plan_evidence.proofs.Ways.{way_inputs}
+use Rattle.plan_evidence.proofs.Ways.{among_is, way_inputs}
+use Rattle.plan_forms.specs.Forms.{input_at, keys_of}
 use Rattle.lazy_follow.specs.Scope.{InScope}
 use Rattle.lazy_follow.proofs.Nodes.{stage_no_node}
 
@@ -93,6 +98,34 @@ from_shape (passes_on i (one_group piece out)) of fit v kind other e = elim (wit
 from_shape (passes_on i (in_order u desc)) of fit v kind other e = inr (record { input = i; among = inl refl; passes = refl; bound = e })
 from_shape (no_events i made) of fit v kind other e = none_some kind e
 
+-- a key that is bound stays bound
+kept_in : (keys : List Key) (ks : Kinds) (v : ℕ) (kind : Kind) → has_var keys v ≡ true → ks v ≡ Some kind → kept keys ks v ≡ Some kind
+kept_in keys ks v kind t e = ap (λ (w : Bool). cond w (ks v) None) t ∙ e
+
+-- what isn't bound isn't kept
+kept_none : (keys : List Key) (ks : Kinds) (v : ℕ) → ks v ≡ None → kept keys ks v ≡ None
+kept_none keys ks v e = either (has_var keys v)
+  where
+    either : (t : Bool) → cond t (ks v) None ≡ None
+    either true = e
+    either false = refl
+
+-- a variable has no maker, or its maker binds it anew
+maker_outs : (ops : List Operator) (v : ℕ) → (maker ops v ≡ no_events 0 0) ⊎ Among v (shape_outs (maker ops v))
+maker_outs [] v = inl refl
+maker_outs (op ∷ ops) v =
+    (elim (list_any (λ w. w == v) (outs_of op)) as (λ t. list_any (λ w. w == v) (outs_of op) ≡ t → (cond t (shape_of op) (maker ops v) ≡ no_events 0 0) ⊎ Among v (shape_outs (cond t (shape_of op) (maker ops v)))) [
+      | true ↦ λ e. inr (among_is (outs_of op) v e)
+      | false ↦ λ e. maker_outs ops v
+    ]) refl
+
+-- a stage that makes a variable binds it anew
+made_here : (ops : List Operator) (v m input : ℕ) (stage : Stage) → maker ops v ≡ shape_at ops m → shape_at ops m ≡ passes_on input stage → Among v (shape_outs (shape_at ops m))
+made_here ops v m input stage e is = elim (maker_outs ops v) [
+  | inl n ↦ (let f : no_events 0 0 ≡ passes_on input stage = sym n ∙ e ∙ is in let no : ⊥ = cc in absurd no)
+  | inr a ↦ subst (λ (g : Shape). Among v (shape_outs g)) e a
+]
+
 module _ (p : PlanValue) (valid : IsValid p) (typed : IsTyped p.ops) where
   -- what a shape binds, an operator of that shape binds
   binds_as : (n : ℕ) → n < length p.ops → (f : Shape) → shape_at p.ops n ≡ f → (v : ℕ) (kind : Kind) → shape_kinds f (kinds p.ops) v ≡ Some kind → kinds p.ops n v ≡ Some kind
@@ -153,3 +186,56 @@ module _ (p : PlanValue) (valid : IsValid p) (typed : IsTyped p.ops) where
     no_node_of_stage input stage is n b e =
         let k = sym (ap (λ (ks : Kinds). ks v) (kinds-is p valid typed m within)) ∙ node_below (suc n) n (omega arith) b e in
         stage_no_node stage (kinds p.ops input) v (subst (λ (f : Shape). Among v (shape_outs f)) is made) (subst (λ (f : Shape). shape_kinds f (kinds p.ops) v ≡ Some a_node) is k)
+
+  -- an operator that binds all that its input does binds all that the operator does which makes a list or an element in the input
+  pub chosen_scope : (n v : ℕ) (kind : Kind) → n < length p.ops → input_at p.ops n < n → InScope p.ops n (input_at p.ops n) → kinds p.ops (input_at p.ops n) v ≡ Some kind → (m : ℕ) → m < length p.ops → maker p.ops v ≡ shape_at p.ops m
+      → (input : ℕ) (stage : Stage) → shape_at p.ops m ≡ passes_on input stage → InScope p.ops n m
+  chosen_scope n v kind b low scope k m within e input stage is =
+      let made = made_here p.ops v m input stage e is in
+      let small : input_at p.ops n < length p.ops = omega (arith, low, b) in
+      let r = scoped m within v made (input_at p.ops n) kind small (λ q. no_node_of_stage m within v made input stage is (input_at p.ops n) small (k ∙ ap (λ (x : Kind). Some x) q)) k in
+      λ w j h. scope w j (r w j h)
+
+  -- the keys of an operator are of nodes that it binds
+  pub keys_here : (n : ℕ) → n < length p.ops → (o : Operator) → op_at p.ops n ≡ o → AreNodes (keys_of o) (kinds p.ops n)
+  keys_here n b (source s out) e = λ v t. cc
+  keys_here n b (get_descendants i start path out) e = λ v t. cc
+  keys_here n b (join l r tests) e = λ v t. cc
+  keys_here n b (over i (select test)) e = λ v t. cc
+  keys_here n b (over i (order_by u desc)) e = λ v t. cc
+  keys_here n b (over i (project keys)) e = λ v t. cc
+  keys_here n b (over i (group_by [] piece out)) e = λ v t. cc
+  keys_here n b (over i (group_by (x ∷ keys) piece out)) e = λ v t.
+      (let fit : IsFit (over i (group_by (x ∷ keys) piece out)) (kinds p.ops) = subst (λ (o : Operator). IsFit o (kinds p.ops)) e (typed.fit n b) in
+      let f : Shape = passes_on i (first_by_keys (x ∷ keys) (Some (piece, out))) in
+      binds_as n b f (ap shape_of e) v a_node
+      (with_in out a_list (kept (x ∷ keys) (kinds p.ops i)) (kept_none (x ∷ keys) (kinds p.ops i) out (anew p valid n b f (ap shape_of e) i out (inl refl) (inl refl))) v a_node
+      (kept_in (x ∷ keys) (kinds p.ops i) v a_node t (fit.0 v t))))
+  keys_here n b (over i (concatenate pieces out)) e = λ v t. cc
+  keys_here n b (over i (create_element label list out)) e = λ v t. cc
+  keys_here n b (tuple_destroy i made) e = λ v t. cc
+
+  -- an operator that binds a list or an element binds all that the operator does which makes it
+  pub made_scope : (i v : ℕ) (kind : Kind) → i < length p.ops → kinds p.ops i v ≡ Some kind → (m : ℕ) → m < length p.ops → maker p.ops v ≡ shape_at p.ops m → (input : ℕ) (stage : Stage) → shape_at p.ops m ≡ passes_on input stage
+      → InScope p.ops i m
+  made_scope i v kind b k m within e input stage is =
+      let made = made_here p.ops v m input stage e is in
+      scoped m within v made i kind b (λ q. no_node_of_stage m within v made input stage is i b (k ∙ ap (λ (x : Kind). Some x) q)) k
+
+  -- an operator that makes elements binds all that its input does
+  pub element_scope : (n input : ℕ) (label : List ℕ) (list out : ℕ) → n < length p.ops → op_at p.ops n ≡ over input (create_element label list out) → InScope p.ops n input
+  element_scope n input label list out b e = input_scope n b (passes_on input (extends out (an_element_of label list))) (ap shape_of e) input refl
+
+  -- an operator that binds an element binds all that the operator does which makes the element's list
+  pub inner_scope : (n : ℕ) → n < length p.ops → (v m : ℕ) → m < length p.ops → maker p.ops v ≡ shape_at p.ops m → (input : ℕ) (label : List ℕ) (list out : ℕ) → op_at p.ops m ≡ over input (create_element label list out)
+      → (r : Option ℕ) → IfSome r (λ u. (i : ℕ) (k : Kind) → i < m → kinds p.ops i list ≡ Some k → InScope p.ops i u)
+      → IfSome r (λ u. (i : ℕ) (k : Kind) → i < n → kinds p.ops i v ≡ Some k → InScope p.ops i u)
+  inner_scope n b v m within e input label list out is None h = tt
+  inner_scope n b v m within e input label list out is (Some u) h = λ i k l bound.
+      let f : Shape = passes_on input (extends out (an_element_of label list)) in
+      let s = smaller p valid typed input m within (subst (λ (g : Shape). Among input (shape_inputs g)) (sym (ap shape_of is)) (inl refl)) in
+      let fit : IsFit (over input (create_element label list out)) (kinds p.ops) = subst (λ (o : Operator). IsFit o (kinds p.ops)) is (typed.fit m within) in
+      let own = h input a_list s fit in
+      let up = element_scope m input label list out within is in
+      let top = made_scope i v k (omega (arith, l, b)) bound m within e input (extends out (an_element_of label list)) (ap shape_of is) in
+      λ w j x. top w j (up w j (own w j x))

@@ -9,6 +9,7 @@ use Rattle.plan_evidence.specs.Named.{Listing, of_pieces, of_group, maker, listi
 use Rattle.plan_forms.specs.Forms.{pieces_of, piece_at, input_at, keys_of, piece_of, IsWritten}
 use Rattle.lazy_follow.specs.declared.choosing.Chosen.{Chosen}
 use Rattle.lazy_follow.specs.declared.choosing.Chosen.TheVariants.{Nothing, Tree, Member, Among}
+use Rattle.lazy_follow.specs.Scope.{InScope}
 use Rattle.lazy_follow.specs.Following.{Choice, nothing, a_tree, a_member, a_list_among}
 
 -- operator n has a piece at an index, which is written in it
@@ -47,3 +48,10 @@ IsMaker ops n v i = (i < n) × (maker ops v ≡ shape_at ops i)
 abbrev pub IsListBy : List Operator → Option Listing → Option ℕ → Type 0
 IsListBy ops None r = r ≡ None
 IsListBy ops (Some list) r = MatchOption r ⊥ (λ n. (n < length ops) × (listing (shape_at ops n) ≡ Some list))
+
+-- the operator of a list binds all that the one binds whose list or group was chosen, or the input of the one whose piece was
+abbrev pub IsScope : List Operator → ℕ → Chosen → Type 0
+IsScope ops n Nothing = Unit {0}
+IsScope ops n (Tree m index) = InScope ops n (input_at ops m)
+IsScope ops n (Member m) = InScope ops n m
+IsScope ops n (Among m) = InScope ops n m

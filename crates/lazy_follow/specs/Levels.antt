@@ -1,12 +1,7 @@
 -- What following one level comes to.
 use Rattle.std.specs.Prelude.{◌≡◌, ◌<◌, ℕ, IsTrue, List, Some, Option, MatchOption, length}
-use Rattle.mix_tree.specs.declared.var.Key.{Key}
-use Rattle.node_text.specs.Node.{LevelValue}
-use Rattle.plan_core.specs.declared.plan.Piece.{Piece}
 use Rattle.plan_core.specs.ByNumber.{op_at}
-use Rattle.plan_core.specs.Plans.{Operator}
 use Rattle.plan_core.specs.Shapes.{shape_at}
-use Rattle.plan_core.specs.Valid.{kinds, AreNodes}
 use Rattle.plan_evidence.specs.Named.{Listing, listing}
 use Rattle.plan_forms.specs.Forms.{pieces_of, piece_at, input_at, keys_of, piece_of}
 use Rattle.lazy_plan.specs.Bench.{BenchState, ops_of, documents, told}
@@ -14,21 +9,18 @@ use Rattle.lazy_follow.specs.declared.levels.Led.{Led}
 use Rattle.lazy_follow.specs.declared.levels.Led.TheVariants.{List as list_led, Tree as tree_led, Member as member_led}
 use Rattle.lazy_follow.specs.declared.members.Group.{Group}
 use Rattle.lazy_follow.specs.Choosing.{HasPiece, MakesPieces, MakesGroups}
-use Rattle.lazy_follow.specs.Following.{Choice, nothing, a_tree, a_member, a_list_among, choice, IsMet}
+use Rattle.lazy_follow.specs.Following.{Choice, nothing, a_tree, a_member, a_list_among, IsMet}
 use Rattle.lazy_follow.specs.Members.{IsEvidenceAt}
+use Rattle.lazy_follow.specs.Scope.{InScope}
 use Rattle.lazy_follow.specs.Spotted.{IsSpotted}
 
--- the keys of a group of which a level chooses a member are of nodes that operator n binds
-abbrev pub BindsKeys : List Operator → ℕ → Choice → Type 0
-BindsKeys ops n c = (input : ℕ) (keys : List Key) (piece : Piece) → c ≡ a_member input keys piece → AreNodes keys (kinds ops n)
-
--- a list that an operator makes, in a binding that was reached by evidence, of which a level chooses by what that binding has
-pub record IsListIn (st : BenchState) (places : List (List ℕ)) (from : Group) (level : LevelValue) : Type 0 where
+-- a list that an operator makes, in a binding that was reached by evidence, and whose operator binds all that the list's operator does
+pub record IsListIn (st : BenchState) (places : List (List ℕ)) (from : Group) : Type 0 where
   pub here : IsSpotted st places from.here.now
   pub within : from.op < length (ops_of st)
   pub list : Listing
   pub is_list : listing (shape_at (ops_of st) from.op) ≡ Some list
-  pub keys : BindsKeys (ops_of st) from.here.now.op (choice (ops_of st) list level)
+  pub scope : InScope (ops_of st) from.here.now.op from.op
 
 -- no level can be followed from what was chosen: nothing, or a member of which the places are none
 abbrev pub LeadsNowhere : BenchState → List (List ℕ) → Group → List (List ℕ) → Choice → Type 0
@@ -40,8 +32,8 @@ LeadsNowhere st places from tuple (a_list_among pieces) = ⊥
 
 -- what was chosen was found
 abbrev pub IsLed : BenchState → BenchState → List (List ℕ) → Group → List (List ℕ) → Choice → Led → Type 0
-IsLed old new places from tuple c (list_led n) = MakesPieces (ops_of old) n × (c ≡ a_list_among (pieces_of (op_at (ops_of old) n)))
-IsLed old new places from tuple c (tree_led n index) = HasPiece (ops_of old) n index × (c ≡ a_tree (piece_at (ops_of old) n index))
+IsLed old new places from tuple c (list_led n) = MakesPieces (ops_of old) n × InScope (ops_of old) from.here.now.op n × (c ≡ a_list_among (pieces_of (op_at (ops_of old) n)))
+IsLed old new places from tuple c (tree_led n index) = HasPiece (ops_of old) n index × InScope (ops_of old) from.here.now.op (input_at (ops_of old) n) × (c ≡ a_tree (piece_at (ops_of old) n index))
 IsLed old new places from tuple c (member_led n e) =
     let input = input_at (ops_of old) n in let keys = keys_of (op_at (ops_of old) n) in
     MakesGroups (ops_of old) n × (c ≡ a_member input keys (piece_of (ops_of old) n)) × IsEvidenceAt new n tuple e

@@ -1,12 +1,13 @@
 // What the levels of a text choose of lists, as the plan says without any binding.
-ghost use Rattle.std.specs.Prelude.{◌≡◌, ◌<◌, ◌==◌, ℕ, List, Some, MatchOption, length, map};
+ghost use Rattle.std.specs.Prelude.{◌≡◌, ◌<◌, ◌==◌, ℕ, List, Some, IfSome, MatchOption, length, map};
 ghost use Rattle.std.specs.List.{list_any};
 ghost use Rattle.plan_core.specs.PlanMade.{op_of, plan_value};
 ghost use Rattle.plan_core.specs.Shapes.{shape_at};
 ghost use Rattle.plan_core.specs.Valid.{Kind, kinds, outs_of, IsValid};
 ghost use Rattle.plan_evidence.specs.Named.{Listing, listing, list_of};
-ghost use Rattle.plan_forms.specs.Forms.{piece_at};
-ghost use Rattle.lazy_follow.specs.Choosing.{HasPiece, IsChosen, IsListBy, IsMaker, NoneMakes};
+ghost use Rattle.plan_forms.specs.Forms.{input_at, piece_at};
+ghost use Rattle.lazy_follow.specs.Choosing.{HasPiece, IsChosen, IsScope, IsListBy, IsMaker, NoneMakes};
+ghost use Rattle.lazy_follow.specs.Scope.{InScope};
 ghost use Rattle.lazy_follow.specs.Following.{choice, list_in, value_choice, piece_choice};
 
 use mix_tree::Var;
@@ -62,10 +63,12 @@ fn maker_of(plan: &Plan, below: u32, v: Var) -> Option<u32>
 fn value_chosen(plan: &Plan, list: u32, index: usize, v: Var, bare: bool) -> Chosen
     requires valid { IsValid (plan_value plan.now) }
     requires piece { HasPiece (plan_value plan.now).ops list index }
-    requires bound { (i : ℕ) × (k : Kind) × (i < list) × (kinds (plan_value plan.now).ops i v ≡ Some k) }
+    requires bound { (k : Kind) × (input_at (plan_value plan.now).ops list < list) × (kinds (plan_value plan.now).ops (input_at (plan_value plan.now).ops list) v ≡ Some k) }
+    requires scope { InScope (plan_value plan.now).ops list (input_at (plan_value plan.now).ops list) }
     requires is { piece_at (plan_value plan.now).ops list index ≡ Piece.Var v }
-    ensures { (places : List (List ℕ)) → bare ≡ (length places == 0)
+    ensures chosen { (places : List (List ℕ)) → bare ≡ (length places == 0)
         → IsChosen (plan_value plan.now).ops result (piece_choice (plan_value plan.now).ops places (Some (Piece.Var v))) }
+    ensures scope { IsScope (plan_value plan.now).ops list result }
 {
     valid_plans_are_typed();
     let Some(maker) = maker_of(plan, list, v) else {
@@ -90,8 +93,10 @@ fn value_chosen(plan: &Plan, list: u32, index: usize, v: Var, bare: bool) -> Cho
 fn piece_chosen(plan: &Plan, list: u32, index: usize, bare: bool) -> Chosen
     requires valid { IsValid (plan_value plan.now) }
     requires piece { HasPiece (plan_value plan.now).ops list index }
-    ensures { (places : List (List ℕ)) → bare ≡ (length places == 0)
+    requires scope { InScope (plan_value plan.now).ops list (input_at (plan_value plan.now).ops list) }
+    ensures chosen { (places : List (List ℕ)) → bare ≡ (length places == 0)
         → IsChosen (plan_value plan.now).ops result (piece_choice (plan_value plan.now).ops places (Some (piece_at (plan_value plan.now).ops list index))) }
+    ensures scope { IsScope (plan_value plan.now).ops list result }
 {
     valid_plans_are_typed();
     match piece(plan, list, index) {
@@ -113,8 +118,9 @@ fn piece_chosen(plan: &Plan, list: u32, index: usize, bare: bool) -> Chosen
 pub(crate) fn choose(plan: &Plan, list: u32, level: &Level) -> Chosen
     requires valid { IsValid (plan_value plan.now) }
     requires list { list < length (plan_value plan.now).ops }
-    ensures { (l : Listing) → listing (shape_at (plan_value plan.now).ops list) ≡ Some l
+    ensures chosen { (l : Listing) → listing (shape_at (plan_value plan.now).ops list) ≡ Some l
         → IsChosen (plan_value plan.now).ops result (choice (plan_value plan.now).ops l level.now) }
+    ensures scope { IsScope (plan_value plan.now).ops list result }
 {
     match operator(plan, list) {
         Op::GroupBy { .. } => {
@@ -139,7 +145,8 @@ fn list_maker(plan: &Plan, below: u32, v: Var) -> Option<u32>
     requires valid { IsValid (plan_value plan.now) }
     requires op { below < length (plan_value plan.now).ops }
     requires bound { (i : ℕ) × (k : Kind) × (i < below) × (kinds (plan_value plan.now).ops i v ≡ Some k) }
-    ensures { IsListBy (plan_value plan.now).ops (list_of (plan_value plan.now).ops v) result }
+    ensures list { IsListBy (plan_value plan.now).ops (list_of (plan_value plan.now).ops v) result }
+    ensures scope { IfSome result (λ n. (i : ℕ) (k : Kind) → i < below → kinds (plan_value plan.now).ops i v ≡ Some k → InScope (plan_value plan.now).ops i n) }
 {
     valid_plans_are_typed();
     let Some(maker) = maker_of(plan, below, v) else {
@@ -157,7 +164,8 @@ fn inner_of(plan: &Plan, op: u32, v: Var) -> Option<u32>
     requires valid { IsValid (plan_value plan.now) }
     requires op { op < length (plan_value plan.now).ops }
     requires bound { (i : ℕ) × (k : Kind) × (i < op) × (kinds (plan_value plan.now).ops i v ≡ Some k) }
-    ensures { IsListBy (plan_value plan.now).ops (list_in (plan_value plan.now).ops (Piece.Var v)) result }
+    ensures list { IsListBy (plan_value plan.now).ops (list_in (plan_value plan.now).ops (Piece.Var v)) result }
+    ensures scope { IfSome result (λ n. (i : ℕ) (k : Kind) → i < op → kinds (plan_value plan.now).ops i v ≡ Some k → InScope (plan_value plan.now).ops i n) }
 {
     valid_plans_are_typed();
     let Some(element) = maker_of(plan, op, v) else {
@@ -173,7 +181,8 @@ fn inner_of(plan: &Plan, op: u32, v: Var) -> Option<u32>
 pub(crate) fn list_of_piece(plan: &Plan, op: u32, index: usize) -> Option<u32>
     requires valid { IsValid (plan_value plan.now) }
     requires piece { HasPiece (plan_value plan.now).ops op index }
-    ensures { IsListBy (plan_value plan.now).ops (list_in (plan_value plan.now).ops (piece_at (plan_value plan.now).ops op index)) result }
+    ensures list { IsListBy (plan_value plan.now).ops (list_in (plan_value plan.now).ops (piece_at (plan_value plan.now).ops op index)) result }
+    ensures scope { IfSome result (λ n. InScope (plan_value plan.now).ops (input_at (plan_value plan.now).ops op) n) }
 {
     valid_plans_are_typed();
     match piece(plan, op, index) {

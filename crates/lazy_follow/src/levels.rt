@@ -37,11 +37,11 @@ pub fn follow_level<S: Sources>(
     level: &Level,
 ) -> Result<Option<Led>, WalkFault>
     requires bench { IsBenchOf (S.view s.old) bench.old }
-    requires list { (places : List (List ℕ)) × IsListIn (state_of (S.view s.old) bench.old) places from.now level.now }
+    requires list { (places : List (List ℕ)) × IsListIn (state_of (S.view s.old) bench.old) places from.now }
     ensures sought { Sought S.view S.came_from (reaches level.now.tuple) s.old bench.old s.new bench.new }
     ensures cause { HasCause (ops_of (state_of (S.view s.old) bench.old)) (S.view s.old) (S.view s.new) result }
     ensures answer { (places : List (List ℕ)) → let old = state_of (S.view s.old) bench.old in let new = state_of (S.view s.new) bench.new in
-        (h : IsListIn old places from.now level.now) → IfOk result (GivesLed old new places from.now level.now.tuple (choice (ops_of old) h.list level.now)) }
+        (h : IsListIn old places from.now) → IfOk result (GivesLed old new places from.now level.now.tuple (choice (ops_of old) h.list level.now)) }
 {
     valid_plans_are_typed();
     match choose(bench.plan(), from.op, level) {
