@@ -15,7 +15,7 @@ use Rattle.plan_core.specs.Valid.{a_node, kinds, IsValid}
 use Rattle.plan_evidence.specs.Evidence.{evidence_vars, IsEvidence}
 use Rattle.plan_evidence.specs.Held.{node_values}
 use Rattle.plan_evidence.specs.Named.{Listing, listing}
-use Rattle.plan_forms.specs.Forms.{input_at, keys_of, piece_of}
+use Rattle.plan_forms.specs.Forms.{input_at, keys_of}
 use Rattle.lazy_plan.specs.Bench.{BenchState, ops_of, documents, KeepsBench}
 use Rattle.lazy_seek.specs.Evidenced.{AreSpotsOf}
 use Rattle.lazy_seek.specs.Given.{given}
@@ -27,7 +27,7 @@ use Rattle.lazy_follow.specs.declared.evidence.Evidence.{Evidence}
 use Rattle.lazy_follow.specs.declared.choosing.Chosen.{Chosen}
 use Rattle.lazy_follow.specs.declared.members.Group.{Group}
 use Rattle.lazy_follow.specs.Choosing.{MakesGroups, IsChosen, IsScope}
-use Rattle.lazy_follow.specs.Following.{a_member, choice}
+use Rattle.lazy_follow.specs.Following.{choice}
 use Rattle.lazy_follow.specs.Levels.{IsListIn}
 use Rattle.lazy_follow.specs.Members.{IsGroup}
 use Rattle.lazy_follow.proofs.Choices.{piece_input, keys_there}

@@ -3,19 +3,16 @@ use Rattle.std.proofs.Common.{◌≡◌, ◌⊎◌, inl, inr, ℕ, zero, suc, �
 use Rattle.std.specs.Prelude.{Bool, ◌==◌, IfSome}
 use Rattle.std.specs.List.{list_any}
 use Rattle.std.proofs.lemmas.Bool.{eqb-true}
-use Rattle.std.proofs.lemmas.Bool.Decides.{nat_tests}
 use Rattle.mix_base.proofs.Choices.{some_is, none_some}
 use Rattle.mix_base.specs.Ascents.{Among}
 use Rattle.mix_tree.specs.Keys.{has_var}
-use Rattle.mix_tree.specs.declared.comparing.Test.{Test}
 use Rattle.mix_tree.specs.declared.var.Key.{Key}
-use Rattle.plan_core.specs.declared.plan.Piece.{Piece}
 use Rattle.plan_core.specs.ByNumber.{op_at}
 use Rattle.plan_core.specs.Plans.{Operator, source, get_descendants, join, over, tuple_destroy, PlanValue}
 use Rattle.plan_core.specs.Unary.{select, order_by, project, group_by, concatenate, create_element}
-use Rattle.plan_core.specs.Shapes.{a_list_of, an_element_of, Stage, filters, extends, first_by_keys, one_group, in_order, Shape, one_source, visits_below, pairs_up, passes_on, no_events, shape_of, shape_at}
+use Rattle.plan_core.specs.Shapes.{an_element_of, Stage, filters, extends, first_by_keys, one_group, in_order, Shape, one_source, visits_below, pairs_up, passes_on, no_events, shape_of, shape_at}
 use Rattle.plan_core.specs.Typed.{IsTyped}
-use Rattle.plan_core.specs.Valid.{Kind, a_node, a_list, Kinds, no_kinds, with_kind, kept, made_kind, either_kind, AreNodes, IsStageFit, IsShapeFit, shape_kinds, shape_inputs, shape_outs, outs_of, IsFit, kinds, IsValid}
+use Rattle.plan_core.specs.Valid.{Kind, a_node, a_list, Kinds, no_kinds, with_kind, kept, made_kind, either_kind, AreNodes, IsShapeFit, shape_kinds, shape_inputs, shape_outs, outs_of, IsFit, kinds, IsValid}
 use Rattle.plan_core.proofs.Fresh.{bound_once, smaller, kinds-is, sides_fresh}
 use Rattle.plan_evidence.specs.Named.{maker}
 use Rattle.plan_evidence.proofs.Evident.{way_bound}

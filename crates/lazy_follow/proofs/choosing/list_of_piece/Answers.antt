@@ -1,4 +1,4 @@
-use Rattle.std.proofs.Common.{rules, ◌≡◌, ◌∙◌, ◌<◌, ℕ, Some, sym, ap, subst}
+use Rattle.std.proofs.Common.{◌≡◌, ◌∙◌, ◌<◌, ℕ, Some, sym, ap, subst}
 use Rattle.plan_core.specs.Valid.{Kind, kinds}
 use Rattle.plan_forms.specs.Forms.{input_at}
 use Rattle.lazy_follow.specs.Scope.{InScope}

@@ -1,18 +1,9 @@
-use Rattle.std.proofs.Common.{◌≡◌, ◌∙◌, ◌<◌, ℕ, List, Some, Option, sym, ap, subst, length}
+use Rattle.std.proofs.Common.{◌∙◌, ℕ, List, sym, ap, subst}
 use Rattle.node_text.specs.Node.{LevelValue}
-use Rattle.plan_core.specs.declared.plan.Plan.{Plan}
-use Rattle.plan_core.specs.ByNumber.{op_at}
 use Rattle.plan_core.specs.PlanMade.{plan_value}
-use Rattle.plan_core.specs.Shapes.{shape_at}
-use Rattle.plan_core.specs.Valid.{kinds}
-use Rattle.plan_evidence.specs.Named.{Listing, listing}
 use Rattle.lazy_plan.specs.Bench.{state_of}
-use Rattle.lazy_follow.specs.declared.choosing.Chosen.{Chosen}
-use Rattle.lazy_follow.specs.declared.members.Group.{Group}
-use Rattle.lazy_follow.specs.Choosing.{IsChosen}
-use Rattle.lazy_follow.specs.Following.{Choice, choice}
-use Rattle.lazy_follow.specs.Levels.{IsListIn, LeadsNowhere}
-use Rattle.lazy_follow.specs.Members.{IsGroup, IsMemberOf, IsEvidenceAt}
+use Rattle.lazy_follow.specs.Levels.{LeadsNowhere}
+use Rattle.lazy_follow.specs.Members.{IsMemberOf, IsEvidenceAt}
 use Rattle.lazy_follow.proofs.Groups.{chosen_of, scope_of, group_of}
 use Rattle.lazy_follow.proofs.levels.follow_level.Goals as goal
 
