@@ -1,0 +1,18 @@
+//! The text of an identifier followed over the sources: from the outer element's list, level by level, to the node that it names.
+#![tactic(auto)]
+
+mod agreeing;
+mod choosing;
+mod evidence;
+mod law;
+mod levels;
+mod mark;
+mod members;
+mod way;
+
+pub use agreeing::agrees;
+pub use evidence::Evidence;
+pub use law::marks_stay;
+pub use levels::{Led, follow_level};
+pub use mark::{Mark, Shown};
+pub use members::{Group, member};
