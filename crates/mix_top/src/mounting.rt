@@ -52,7 +52,8 @@ fn mount_spec<F: Files>(alloc: Global, files: &mut F, spec: &SourceSpec) -> Resu
             mount_table(alloc, files, path_of(file), spec, columns.as_slice())
         }
         SourceKind::Table { .. } => Ok(Mount::Table(TableDoc::open(alloc, spec)?)),
-        SourceKind::Remote { .. } | SourceKind::View { .. } => Ok(Mount::Absent),
+        SourceKind::Remote { .. } => Ok(Mount::Absent),
+        SourceKind::View { .. } => Ok(Mount::Absent),
     }
 }
 
