@@ -20,7 +20,7 @@ use Rattle.mix_top.proofs.Answering.{tells_itself}
 
 -- sources stand in for themselves
 pub stands_itself : (a b : Reaching) → CameFrom a b → StandIn (view_of a) (view_of b) a b
-stands_itself a b came = record { tells = tells_itself a; came = came; fills = omega arith; faults = λ s times h. h }
+stands_itself a b came = record { tells = tells_itself a; came = came; fills = omega arith; faults = λ s times h. h; earlier = λ s. omega arith }
 
 module _ (Are Are' Cost Cost' : List Answer → Type 0) (are : (answers : List Answer) → Are answers → Are' answers) (cost : (answers : List Answer) → Cost answers → Cost' answers)
     (names : List (List ℕ)) (steps : List Step) (before after : SinkView) where

@@ -14,7 +14,7 @@ use Rattle.mix_catalog.specs.declared.source.SourceSpec.{SourceSpec}
 use Rattle.mix_catalog.specs.Grammar.{file_of}
 use Rattle.far_keep.specs.declared.far_source.FarSource.{FarSource}
 use Rattle.mix_top.specs.declared.refusal.FileFault.{FileFault}
-use Rattle.mix_top.specs.Causes.{IsRead, IsNoTree, IsNoTable, IsNoJson}
+use Rattle.mix_top.specs.Causes.{IsRead, IsNoTree, IsNoCsv, IsNoJson}
 
 -- a text spells a tree of at most 200 levels
 abbrev pub SpellsTree : List ℕ → LabelledTree → Type 0
@@ -58,7 +58,7 @@ StandsFor name (View file) = λ text t. ⊥
 -- a fault says why a text stands for no tree as the file of a source of a given kind
 abbrev pub StandsForNone : SourceKind → List ℕ → FileFault → Type 0
 StandsForNone (Bracket file deep) = IsNoTree
-StandsForNone (Csv file columns) = IsNoTable columns
+StandsForNone (Csv file columns) = IsNoCsv columns
 StandsForNone (Table file table key columns) = λ text fault. ⊥
 StandsForNone (Remote replies requests number) = λ text fault. ⊥
 StandsForNone (Json file) = IsNoJson

@@ -5,7 +5,7 @@ ghost use Rattle.mix_io.specs.Views.{FilesView, KeepsFiles, ReadsOnly};
 ghost use Rattle.xmas_rule.specs.RuleMade.{rule_of};
 ghost use Rattle.xmas_rule.specs.Rules.{IsAccepted};
 ghost use Rattle.xmas_read.specs.Results.{names_of_sources};
-ghost use Rattle.mix_top.specs.Causes.{IsRead, IsNoBytes, IsNoCatalog, IsNoJson, IsNoPlan, IsNoRule, IsNoScript, IsNoTable, IsNoTree};
+ghost use Rattle.mix_top.specs.Causes.{IsRead, IsNoBytes, IsNoCatalog, IsNoJson, IsNoPlan, IsNoRule, IsNoScript, IsNoCsv, IsNoTree};
 ghost use Rattle.plan_core.specs.PlanMade.{plan_value};
 ghost use Rattle.mix_top.specs.Course.{IsCatalogFile, IsPlanFile, IsRuleFile, IsScript};
 ghost use Rattle.mix_top.specs.Documents.{HoldsRows, HoldsValue, SpellsTree};
@@ -71,7 +71,7 @@ pub fn mount_tree<F: Files>(
 }
 
 /// The rows of a CSV file with these columns, mounted as the document of a source. An error is as with `mount_tree`.
-pub fn mount_table<F: Files>(
+pub fn mount_csv<F: Files>(
     alloc: Global,
     files: &mut F,
     path: &str,
@@ -83,12 +83,12 @@ pub fn mount_table<F: Files>(
     ensures others { ReadsOnly path.now (F.view files.old) (F.view files.new) }
     ensures steady { OnOk result ((p : List ℕ) → (F.view files.new).faults p ≡ (F.view files.old).faults p) }
     ensures ok { IfOk result (IsMountedFile (HoldsRows source.now.name columns.now) (F.view files.old) path.now source.now.chunk true) }
-    ensures err { IfErr result (IsLoadStop (IsNoTable columns.now) (F.view files.old) (F.view files.new) path.now) }
+    ensures err { IfErr result (IsLoadStop (IsNoCsv columns.now) (F.view files.old) (F.view files.new) path.now) }
 {
     let bytes = load(alloc, files, path)?;
     match CsvDoc::open(alloc, &bytes, &source.name, columns, source.chunk) {
         Ok(doc) => Ok(Mount::Csv(doc)),
-        Err(fault) => Err(refused(alloc, path, FileFault::Table(fault))),
+        Err(fault) => Err(refused(alloc, path, FileFault::Csv(fault))),
     }
 }
 

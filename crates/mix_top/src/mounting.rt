@@ -11,7 +11,7 @@ ghost use Rattle.mix_top.specs.FilesRead.{ChosenMayRead, SourceMayRead};
 ghost use Rattle.mix_top.specs.Reading.{ReadsAmong, IsFileFor, IsWholeFile};
 ghost use Rattle.view_class.specs.Reads.{reads_source};
 
-use crate::load::{mount_table, mount_tree, mount_value};
+use crate::load::{mount_csv, mount_tree, mount_value};
 use crate::refusal::Stop;
 use mix_catalog::{Catalog, SourceKind, SourceSpec};
 use mix_io::Files;
@@ -49,11 +49,12 @@ fn mount_spec<F: Files>(alloc: Global, files: &mut F, spec: &SourceSpec) -> Resu
             mount_tree(alloc, files, path_of(file), spec.chunk, *deep)
         }
         SourceKind::Csv { file, columns } => {
-            mount_table(alloc, files, path_of(file), spec, columns.as_slice())
+            mount_csv(alloc, files, path_of(file), spec, columns.as_slice())
         }
         SourceKind::Table { .. } => Ok(Mount::Table(TableDoc::open(alloc, spec)?)),
         SourceKind::Json { file } => mount_value(alloc, files, path_of(file), spec),
-        SourceKind::Remote { .. } | SourceKind::View { .. } => Ok(Mount::Absent),
+        SourceKind::Remote { .. } => Ok(Mount::Absent),
+        SourceKind::View { .. } => Ok(Mount::Absent),
     }
 }
 

@@ -12,4 +12,5 @@ returns-in_ok-open-in-Table-clause-ok g c =
       file = λ e. absurd (apart.0 e);
       table = λ d e. record { doc = doc; is = refl; name = is.name; chunk = is.chunk; declares = is.declared };
       far = λ far e. absurd (let z : None ≡ Some far = sym apart.1 ∙ e in cc);
+      other = c.requires.other;
     }

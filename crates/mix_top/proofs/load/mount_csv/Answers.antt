@@ -2,15 +2,15 @@ use Rattle.std.proofs.Common.{List, ℕ, refl, subst}
 use Rattle.std.proofs.lemmas.Result.{err_from_is_err_and}
 use Rattle.csv_wrap.specs.Csv.{Explains, IsFile}
 use Rattle.csv_wrap.specs.Rows.{file_tree}
-use Rattle.mix_top.specs.Causes.{IsNoTable}
-use Rattle.mix_top.specs.declared.refusal.FileFault.TheVariants.{Table}
+use Rattle.mix_top.specs.Causes.{IsNoCsv}
+use Rattle.mix_top.specs.declared.refusal.FileFault.TheVariants.{Csv}
 use Rattle.mix_top.proofs.StopLaws.{load_stop, load_stop_unread}
-use Rattle.mix_top.proofs.load.mount_table.Goals as goal
+use Rattle.mix_top.proofs.load.mount_csv.Goals as goal
 
 pub returns-in_err-bytes-clause-err : goal.returns-in_err-bytes-clause-err
 returns-in_err-bytes-clause-err g c =
     let p = err_from_is_err_and c.from_residual.result c.from_residual.ensures.1 in
-    rw (p.1, p.2) (load_stop_unread (IsNoTable c.args.columns.now) (g.F.Files.view c.args.files.now) (g.F.Files.view c.load.new.files) c.args.path.now _ c.in_err-bytes.ensures.err)
+    rw (p.1, p.2) (load_stop_unread (IsNoCsv c.args.columns.now) (g.F.Files.view c.args.files.now) (g.F.Files.view c.load.new.files) c.args.path.now _ c.in_err-bytes.ensures.err)
 
 pub returns-in-Ok-clause-ok : goal.returns-in-Ok-clause-ok
 returns-in-Ok-clause-ok g c =
@@ -30,5 +30,5 @@ returns-in-Ok-clause-ok g c =
 
 pub returns-clause-err : goal.returns-clause-err
 returns-clause-err g c =
-    load_stop (IsNoTable c.args.columns.now) (g.F.Files.view c.args.files.now) (g.F.Files.view c.load.new.files) c.args.path.now (Table c.in-Err.fault) _ c.refused.ensures
+    load_stop (IsNoCsv c.args.columns.now) (g.F.Files.view c.args.files.now) (g.F.Files.view c.load.new.files) c.args.path.now (Csv c.in-Err.fault) _ c.refused.ensures
     (c.in_ok-bytes.bytes.items, c.in_ok-bytes.ensures.ok, (c.in-Err.fault, refl, subst (λ (text : List ℕ). Explains text c.args.columns.now c.in-Err.fault) c.deref.ensures.value c.in-Err.ensures.refused))

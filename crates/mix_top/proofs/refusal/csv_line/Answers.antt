@@ -1,5 +1,5 @@
 use Rattle.std.proofs.Common.{rules, append_assoc}
-use Rattle.mix_top.proofs.refusal.table_line.Goals as goal
+use Rattle.mix_top.proofs.refusal.csv_line.Goals as goal
 
 pub returns-in-HeaderDiffers : goal.returns-in-HeaderDiffers
 returns-in-HeaderDiffers c = rw c.in-HeaderDiffers.is (search (rules, append_assoc))
