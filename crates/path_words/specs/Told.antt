@@ -11,11 +11,6 @@ use Rattle.plan_core.specs.declared.plan.Plan.{Plan}
 use Rattle.unsatisfiable_paths.specs.declared.path.UnsatisfiablePath.{UnsatisfiablePath}
 use Rattle.path_words.specs.Leads.{lead_lines, lead_text}
 
--- a variable by its name, with the $
-abbrev pub var_text : Option (List ℕ) → List ℕ
-var_text None = codes "a variable"
-var_text (Some name) = 36 ∷ name
-
 -- a source by its name
 abbrev pub source_text : Option (List ℕ) → List ℕ
 source_text None = []
@@ -28,17 +23,23 @@ start_text k =
     (cond k.root (codes "the root")
     (cond k.row (codes "a row") (cond (k.value || k.maybe_value) (codes "a column") (cond k.leaf (codes "a value") (codes "no node")))))
 
--- the line that says that a path leads nowhere: for which variable, which path, and from where
-abbrev pub head_line : Plan → UnsatisfiablePath → Form → ℕ → List ℕ
-head_line plan x path out =
-    codes "no value for " ++ var_text (slice_get plan.names.items out) ++ codes ": the path " ++ canon path ++ codes " leads nowhere from "
-    ++ start_text x.from ++ codes " of " ++ source_text (slice_get plan.sources.items x.source) ++ codes "\n"
+-- the line that says that the path of a variable leads nowhere: which path, and from where, over sources of given names
+abbrev pub head_line : List (List ℕ) → UnsatisfiablePath → Form → List ℕ → List ℕ
+head_line sources x path name =
+    codes "no value for $" ++ name ++ codes ": the path " ++ canon path ++ codes " leads nowhere from "
+    ++ start_text x.from ++ codes " of " ++ source_text (slice_get sources x.source) ++ codes "\n"
 
--- what is said of an operator's path that leads nowhere: which it is, and what is there
-abbrev pub path_said : Shape → Plan → UnsatisfiablePath → Option Op → List ℕ
-path_said shape plan x (Some (GetDescendants input start path out)) = head_line plan x path out ++ lead_text (lead_lines shape x.from)
-path_said shape plan x o = []
+-- what is said of a variable's path that leads nowhere: which it is, and what is there; of a variable that the view doesn't name nothing is said, since
+-- such a one repeats a named one's path
+abbrev pub path_said : Shape → List (List ℕ) → UnsatisfiablePath → Form → Option (List ℕ) → List ℕ
+path_said shape sources x path None = []
+path_said shape sources x path (Some name) = head_line sources x path name ++ lead_text (lead_lines shape x.from)
+
+-- what is said of an operator whose path leads nowhere
+abbrev pub op_said : Shape → Plan → UnsatisfiablePath → Option Op → List ℕ
+op_said shape plan x (Some (GetDescendants input start path out)) = path_said shape plan.sources.items x path (slice_get plan.names.items out)
+op_said shape plan x o = []
 
 -- what is said of a path of a plan that leads nowhere, over sources of these shapes
 abbrev pub path_lines : List Shape → Plan → UnsatisfiablePath → List ℕ
-path_lines shapes plan x = path_said (shape_at shapes x.source) plan x (slice_get plan.ops.items x.op)
+path_lines shapes plan x = op_said (shape_at shapes x.source) plan x (slice_get plan.ops.items x.op)

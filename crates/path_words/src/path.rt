@@ -1,27 +1,12 @@
 // A path that leads nowhere: for which variable, and from where.
 ghost use Rattle.std.specs.Prelude.{◌≡◌, ◌++◌, IfOk, OnOk, slice_get, codes};
-ghost use Rattle.path_words.specs.Told.{head_line, source_text, start_text, var_text};
+ghost use Rattle.path_words.specs.Told.{head_line, source_text, start_text};
 
 use browse_visit::Sorts;
-use mix_tree::{Label, Var};
+use mix_tree::Label;
 use path_expr::{Path, write_path};
-use plan_core::Plan;
 use std::alloc::{AllocError, Global};
 use unsatisfiable_paths::UnsatisfiablePath;
-
-// Adds the name of a variable, with its `$`.
-fn push_var(line: &mut Vec<u8>, names: &[Label], var: Var) -> Result<(), AllocError>
-    ensures { OnOk result (line.new.items ≡ line.old.items ++ var_text (slice_get names.now var)) }
-{
-    match names.get(var.number() as usize) {
-        Some(name) => {
-            line.push(b'$')?;
-            line.extend_from_slice(name.bytes())?;
-        }
-        None => line.extend_from_slice(b"a variable")?,
-    }
-    Ok(())
-}
 
 // Adds the name of a source.
 fn push_source(line: &mut Vec<u8>, names: &[Label], source: u32) -> Result<(), AllocError>
@@ -52,25 +37,25 @@ fn start_text(from: Sorts) -> &'static str
     }
 }
 
-/// The line that says that a path leads nowhere: for which variable, which path, and from where. `Err`: memory.
+/// The line that says that the path of a variable leads nowhere: which path, and from where. `Err`: memory.
 pub fn head_line(
     alloc: Global,
-    plan: &Plan,
+    sources: &[Label],
     unsatisfiable: UnsatisfiablePath,
     path: &Path,
-    out: Var,
+    name: &Label,
 ) -> Result<Vec<u8>, AllocError>
-    ensures { IfOk result (λ line. line.items ≡ head_line plan.now unsatisfiable path.now out) }
+    ensures { IfOk result (λ line. line.items ≡ head_line sources.now unsatisfiable path.now name.now) }
 {
-    let mut line = Vec::from_slice(alloc, b"no value for ")?;
-    push_var(&mut line, &plan.names, out)?;
+    let mut line = Vec::from_slice(alloc, b"no value for $")?;
+    line.extend_from_slice(name.bytes())?;
     line.extend_from_slice(b": the path ")?;
     let text = write_path(alloc, path)?;
     line.extend_from_slice(&text)?;
     line.extend_from_slice(b" leads nowhere from ")?;
     line.extend_from_slice(start_text(unsatisfiable.from).as_bytes())?;
     line.extend_from_slice(b" of ")?;
-    push_source(&mut line, &plan.sources, unsatisfiable.source)?;
+    push_source(&mut line, sources, unsatisfiable.source)?;
     line.push(b'\n')?;
     Ok(line)
 }

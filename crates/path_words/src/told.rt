@@ -44,14 +44,17 @@ fn path_lines(
     let Some(Op::GetDescendants { path, out, .. }) = plan.ops.get(unsatisfiable.op) else {
         return Ok(Vec::new(alloc));
     };
-    let mut lines = head_line(alloc, plan, unsatisfiable, path, *out)?;
+    let Some(name) = plan.names.get(out.number() as usize) else {
+        return Ok(Vec::new(alloc));
+    };
+    let mut lines = head_line(alloc, &plan.sources, unsatisfiable, path, name)?;
     let leads = leads_of(alloc, shapes, unsatisfiable.source, unsatisfiable.from)?;
     lines.extend_from_slice(&leads)?;
     Ok(lines)
 }
 
-/// The paths of a plan that match nothing, whatever documents of these shapes its sources have, in words: of each for which variable it is, from where it
-/// leads nowhere, and where paths lead from there. Each line ends with LF; without such paths there is none. `Err`: memory.
+/// The paths of a plan that match nothing, whatever documents of these shapes its sources have, in words: of each that is a named variable's which
+/// it is, from where it leads nowhere, and where paths lead from there. Each line ends with LF; without such paths there is none. `Err`: memory.
 pub fn path_words(alloc: Global, shapes: &[Shape], plan: &Plan) -> Result<Vec<u8>, AllocError>
     requires { IsValid (plan_value plan.now) }
     ensures { IfOk result (λ words. words.items ≡ flat_map (path_lines shapes.now plan.now) (unsatisfiable.unsatisfiable_in shapes.now (plan_value plan.now).ops)) }
