@@ -4,6 +4,7 @@ use bracket_text::read_document;
 use bracket_wrap::BracketDoc;
 use case_text::{Fault, Part, numbers, tables_of};
 use csv_wrap::CsvDoc;
+use json_text::read_json;
 use mix_catalog::{Catalog, SourceKind, SourceSpec};
 use mix_mount::{Mount, Mounted};
 use mix_tree::Label;
@@ -27,6 +28,17 @@ fn bracket(alloc: Global, text: &[u8], chunk: u32, deep: bool) -> Result<Mount, 
         return Err(Fault::Form);
     }
     Ok(Mount::Bracket(BracketDoc::open(nodes, chunk, deep)))
+}
+
+// A JSON document of a text.
+fn json(alloc: Global, text: &[u8], spec: &SourceSpec) -> Result<Mount, Fault> {
+    let Ok(nodes) = read_json(alloc, &spec.name, text) else {
+        return Err(Fault::Form);
+    };
+    if spec.chunk == 0 || spec.chunk > 1000 {
+        return Err(Fault::Form);
+    }
+    Ok(Mount::Bracket(BracketDoc::open(nodes, spec.chunk, false)))
 }
 
 // A CSV document of a text.
@@ -64,7 +76,11 @@ fn mount(alloc: Global, parts: &[Part<'_>], spec: &SourceSpec) -> Result<Mount, 
             Some(text) => csv(alloc, text, spec, columns.as_slice()),
             None => Ok(Mount::Absent),
         },
-        SourceKind::Remote { .. } => Ok(Mount::Absent),
+        SourceKind::Json { file: path } => match file(parts, path) {
+            Some(text) => json(alloc, text, spec),
+            None => Ok(Mount::Absent),
+        },
+        SourceKind::Remote { .. } | SourceKind::View { .. } => Ok(Mount::Absent),
     }
 }
 

@@ -93,17 +93,25 @@ chunk_of-found (a ∷ []) n e = none_some n e
 chunk_of-found (a ∷ b ∷ []) n e = let parts = chunk_form-found a b n e in (b, ap (λ w. w ∷ b ∷ []) parts.0, parts.1)
 chunk_of-found (a ∷ b ∷ c ∷ words) n e = none_some n e
 
+-- a text whose words give a chunk spells it
+pub words_found : (text : List ℕ) (n : ℕ) → chunk_of (words_of text) ≡ Some n → SpellsCutting n false text
+words_found text n e = let m = chunk_of-found (words_of text) n e in record { digits = m.0; words = m.1; numbered = m.2 }
+
+-- the words of a text that spells a chunk give it
+pub words_given : (text : List ℕ) (n : ℕ) → SpellsCutting n false text → chunk_of (words_of text) ≡ Some n
+words_given text n h = ap chunk_of h.words ∙ number_of-given h.digits n h.numbered
+
 -- a text that gives a chunk after columns spells it
 pub chunk_found : (text : List ℕ) (n : ℕ) → chunk_after text ≡ Some n → IsTrue (ends_word text) × SpellsCutting n false text
 chunk_found text n e = by_case (ends_word text) refl e
   where
     by_case : (t : Bool) → ends_word text ≡ t → cond t (chunk_of (words_of text)) None ≡ Some n → IsTrue (ends_word text) × SpellsCutting n false text
-    by_case true h f = let m = chunk_of-found (words_of text) n f in (h, record { digits = m.0; words = m.1; numbered = m.2 })
+    by_case true h f = (h, words_found text n f)
     by_case false h f = none_some n f
 
 -- a text that spells a chunk after columns gives it
 pub chunk_given : (text : List ℕ) (n : ℕ) → IsTrue (ends_word text) → SpellsCutting n false text → chunk_after text ≡ Some n
-chunk_given text n ends h = ap (λ t. cond t (chunk_of (words_of text)) None) ends ∙ ap chunk_of h.words ∙ number_of-given h.digits n h.numbered
+chunk_given text n ends h = ap (λ t. cond t (chunk_of (words_of text)) None) ends ∙ words_given text n h
 
 -- words that are tested to be the one word columns are it
 pub columns_word : (words : List (List ℕ)) → is_columns_word words ≡ true → words ≡ codes "columns" ∷ []

@@ -7,9 +7,10 @@ use Rattle.std.proofs.lemmas.List.{length-map, map-append, length-append}
 use Rattle.indexmap.specs.IndexMap.{insert_entry}
 use Rattle.indexmap.proofs.MapLemmas.{Missing-position, insert_entry-absent}
 use Rattle.mix_catalog.specs.declared.source.SourceSpec.{SourceSpec}
-use Rattle.mix_catalog.specs.Sources.{source_named, AreNumbered}
+use Rattle.mix_catalog.specs.Sources.{source_named, AreNumbered, views_last, IsInPlace}
 use Rattle.mix_catalog.specs.Kept.{AreNamed, IsKept}
 use Rattle.mix_catalog.proofs.Numbered.{AreNumbered-push}
+use Rattle.mix_catalog.proofs.Places.{views_last-push}
 use Rattle.mix_tree.specs.Names.{IsName}
 
 -- the first place that passes among a list's images, or the length, is that of the list by the test of images
@@ -50,11 +51,12 @@ AreNamed-push es key s named same =
 
 -- entries are kept with a source of a new name after them
 pub IsKept-push : (es new : List (Vec ℕ Global × SourceSpec)) (key : Vec ℕ Global) (s : SourceSpec) → new ≡ es ++ (key, s) ∷ [] → key.items ≡ s.name → IsKept es → length es < 32 → IsName s.name
-    → source_named (map (λ e. e.1) es) s.name ≡ None → IsKept new
-IsKept-push es new key s parts same kept few named none =
+    → source_named (map (λ e. e.1) es) s.name ≡ None → IsInPlace (map (λ e. e.1) es) s → IsKept new
+IsKept-push es new key s parts same kept few named none place =
     let pushed : IsKept (es ++ (key, s) ∷ []) = record {
       keys = AreNamed-push es key s kept.keys same;
       few = omega (arith, length-append es ((key, s) ∷ []));
       numbered = subst AreNumbered (sym (map-append (λ e. e.1) es ((key, s) ∷ []))) (AreNumbered-push (map (λ e. e.1) es) s kept.numbered named none);
+      last = ap views_last (map-append (λ e. e.1) es ((key, s) ∷ [])) ∙ views_last-push (map (λ e. e.1) es) s kept.last place;
     } in
     subst IsKept (sym parts) pushed

@@ -8,6 +8,7 @@ pub mod Finds
 pub mod NameText
 pub mod NamedApart
 pub mod Numbered
+pub mod Places
 pub mod OneAnswer
 pub mod Remotes
 pub mod Seens

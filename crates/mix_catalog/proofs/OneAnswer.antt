@@ -8,8 +8,8 @@ use Rattle.mix_catalog.specs.declared.source.SourceSpec.{SourceSpec}
 use Rattle.mix_catalog.specs.declared.fault.CatalogFault.{CatalogFault}
 use Rattle.mix_catalog.specs.declared.fault.CatalogFault.TheVariants.{Line, Chunk, Columns, ColumnTwice, NameTwice, TooMany, OutOfMemory}
 use Rattle.mix_catalog.specs.Columns.{are_apart}
-use Rattle.mix_catalog.specs.Grammar.{columns_of, Spells, SpellsNone}
-use Rattle.mix_catalog.specs.Sources.{source_named, IsChunk, IsTakenBy, Adds, Accepts, IsCatalog, RefusesSource, IsNotTaken, IsFault, IsFirstFault, Refuses, Answers, IsWantOfMemory, SameAnswer}
+use Rattle.mix_catalog.specs.Grammar.{columns_of}
+use Rattle.mix_catalog.specs.Sources.{source_named, FitsNone, IsChunk, IsTakenBy, Adds, Accepts, IsCatalog, RefusesSource, IsNotTaken, IsFault, IsFirstFault, Refuses, Answers, IsWantOfMemory, SameAnswer}
 use Rattle.mix_catalog.proofs.Spelled.{one_source}
 
 -- no line is passed over and not
@@ -25,7 +25,7 @@ Adds-one : (before : List SourceSpec) (line : List ℕ) (a b : List SourceSpec) 
 Adds-one before line a b (inl (p, e)) (inl (q, f)) = e ∙ sym f
 Adds-one before line a b (inl (p, e)) (inr (q, s, h, t, f)) = passed_once line p q
 Adds-one before line a b (inr (p, s, h, t, e)) (inl (q, f)) = passed_once line q p
-Adds-one before line a b (inr (p, s, h, t, e)) (inr (q, r, k, u, f)) = e ∙ ap (λ x. before ++ x ∷ []) (one_source line s r h k) ∙ sym f
+Adds-one before line a b (inr (p, s, h, t, e)) (inr (q, r, k, u, f)) = e ∙ ap (λ x. before ++ x ∷ []) (one_source line s r h.0 k.0) ∙ sym f
 
 -- lines that are accepted add to the sources before them in one way
 Accepts-one : (lines : List (List ℕ)) (before a b : List SourceSpec) → Accepts before lines a → Accepts before lines b → a ≡ b
@@ -61,10 +61,10 @@ taken_or_refused before s number OutOfMemory t r = tt
 adds_or_not_taken : (before : List SourceSpec) (line : List ℕ) (number : ℕ) (e : CatalogFault) (next : List SourceSpec) → Adds before line next → IsNotTaken before line number e → IsWantOfMemory e
 adds_or_not_taken before line number e next (inl (p, f)) (q, s, h, r) = passed_once line p q
 adds_or_not_taken before line number e next (inr (p, t, k, taken, f)) (q, s, h, r) =
-    taken_or_refused before s number e (subst (IsTakenBy before) (one_source line t s k h) taken) r
+    taken_or_refused before s number e (subst (IsTakenBy before) (one_source line t s k.0 h.0) taken) r
 
 -- a line that adds fits a form
-adds_or_fits_none : {P : Type 0} (before : List SourceSpec) (line : List ℕ) (next : List SourceSpec) → Adds before line next → is_passed line ≡ false → ((s : SourceSpec) → Spells line s → ⊥) → P
+adds_or_fits_none : {P : Type 0} (before : List SourceSpec) (line : List ℕ) (next : List SourceSpec) → Adds before line next → is_passed line ≡ false → FitsNone before line → P
 adds_or_fits_none before line next (inl (p, f)) q none = passed_once line p q
 adds_or_fits_none before line next (inr (p, s, h, taken, f)) q none = absurd (none s h)
 
@@ -143,11 +143,11 @@ refused_once before s number e f h k = one_fault e f (first_cause before s numbe
 
 -- a line's source is refused for one cause
 not_taken_once : (before : List SourceSpec) (line : List ℕ) (number : ℕ) (e f : CatalogFault) → IsNotTaken before line number e → IsNotTaken before line number f → SameFault e f
-not_taken_once before line number e f (p, s, h, r) (q, t, k, u) = refused_once before s number e f r (subst (λ x. RefusesSource before x number f) (one_source line t s k h) u)
+not_taken_once before line number e f (p, s, h, r) (q, t, k, u) = refused_once before s number e f r (subst (λ x. RefusesSource before x number f) (one_source line t s k.0 h.0) u)
 
 -- a line fits no form, or its source is not taken, unless memory ran out
 abbrev Faults : List SourceSpec → List ℕ → ℕ → CatalogFault → Type 0
-Faults before line number e = IsWantOfMemory e ⊎ (((e ≡ Line number) × SpellsNone line) ⊎ IsNotTaken before line number e)
+Faults before line number e = IsWantOfMemory e ⊎ (((e ≡ Line number) × FitsNone before line) ⊎ IsNotTaken before line number e)
 
 -- a line's fault says that it fits no form or that its source is not taken, unless memory ran out
 fault_says : (before : List SourceSpec) (line : List ℕ) (number : ℕ) (e : CatalogFault) → IsFault before line number e → Faults before line number e

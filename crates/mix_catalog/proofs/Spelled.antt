@@ -18,12 +18,12 @@ use Rattle.mix_catalog.specs.declared.form.Form.TheVariants as form
 use Rattle.mix_catalog.specs.declared.form.Prefix.{Prefix}
 use Rattle.mix_catalog.specs.declared.source.SourceSpec.{SourceSpec}
 use Rattle.mix_catalog.specs.declared.source.SourceKind.{SourceKind}
-use Rattle.mix_catalog.specs.declared.source.SourceKind.TheVariants.{Bracket, Csv, Table, Remote}
+use Rattle.mix_catalog.specs.declared.source.SourceKind.TheVariants.{Bracket, Csv, Table, Remote, Json, View}
 use Rattle.mix_catalog.specs.Columns as columns
 use Rattle.mix_catalog.specs.Columns.{SpellsColumns, columns_at, columns_from, ended}
-use Rattle.mix_catalog.specs.Forms.{is_source_name, form_of, prefix_with, prefix_of, cutting_of, chunk_after, is_columns_word}
+use Rattle.mix_catalog.specs.Forms.{is_source_name, form_of, prefix_with, prefix_of, cutting_of, chunk_of, chunk_after, is_columns_word}
 use Rattle.mix_words.specs.Places.{ends_blank, place_of_word}
-use Rattle.mix_catalog.specs.Seen.{bracket, csv, table, remote, columns_seen, csv_at, form_after, source_after, source_seen, source_at, line_source}
+use Rattle.mix_catalog.specs.Seen.{bracket, csv, table, remote, json, view, columns_seen, csv_at, form_after, source_after, source_seen, source_at, line_source}
 use Rattle.mix_catalog.specs.Remotes.{remote_of}
 use Rattle.mix_catalog.specs.Tables.{table_of}
 use Rattle.mix_catalog.specs.Grammar.{AreTableWords, SpellsCutting, SpellsBetween, SpellsAfter, Spells, SpellsNone, form_in, form_word, file_of, prefix_words}
@@ -32,30 +32,45 @@ use Rattle.mix_words.proofs.WordPlaces.{place_apart}
 use Rattle.mix_catalog.proofs.Between.{between_placed}
 use Rattle.mix_catalog.proofs.Seens.{spelling_begins, spelling_seen, word_end_stops}
 use Rattle.mix_catalog.proofs.ColumnsSpelled.{columns_begin, spelled_seen, seen_spelled}
-use Rattle.mix_catalog.proofs.Cuttings.{same_bytes, mapped_some, cutting_found, cutting_given, chunk_found, chunk_given, columns_word}
+use Rattle.mix_catalog.proofs.Cuttings.{same_bytes, mapped_some, cutting_found, cutting_given, chunk_found, chunk_given, words_found, words_given, columns_word}
 use Rattle.mix_catalog.proofs.Remotes.{IsRemote, remote_found, remote_given}
 use Rattle.mix_catalog.proofs.Tables.{table_found, table_given}
+
+-- the form of a word that is not the bracket form's
+abbrev not_bracket : List ℕ → Option Form
+not_bracket word =
+    cond (bytes_eq word (codes "csv")) (Some form.Csv)
+    (cond (bytes_eq word (codes "table")) (Some form.Table) (cond (bytes_eq word (codes "remote")) (Some form.Remote) (cond (bytes_eq word (codes "json")) (Some form.Json) (cond (bytes_eq word (codes "view")) (Some form.View) None))))
 
 -- the word that names a form
 form_of-found : (word : List ℕ) (f : Form) → form_of word ≡ Some f → word ≡ form_word f
 form_of-found word f e = by_bracket (bytes_eq word (codes "bracket")) refl e
   where
-    by_remote : (t : Bool) → bytes_eq word (codes "remote") ≡ t → cond t (Some form.Remote) None ≡ Some f → word ≡ form_word f
-    by_remote true h g = same_bytes word (codes "remote") h ∙ ap form_word (some_is form.Remote f g)
-    by_remote false h g = none_some f g
+    by_view : (t : Bool) → bytes_eq word (codes "view") ≡ t → cond t (Some form.View) None ≡ Some f → word ≡ form_word f
+    by_view true h g = same_bytes word (codes "view") h ∙ ap form_word (some_is form.View f g)
+    by_view false h g = none_some f g
 
-    by_table : (t : Bool) → bytes_eq word (codes "table") ≡ t → cond t (Some form.Table) (cond (bytes_eq word (codes "remote")) (Some form.Remote) None) ≡ Some f → word ≡ form_word f
+    by_json : (t : Bool) → bytes_eq word (codes "json") ≡ t → cond t (Some form.Json) (cond (bytes_eq word (codes "view")) (Some form.View) None) ≡ Some f → word ≡ form_word f
+    by_json true h g = same_bytes word (codes "json") h ∙ ap form_word (some_is form.Json f g)
+    by_json false h g = by_view (bytes_eq word (codes "view")) refl g
+
+    by_remote : (t : Bool) → bytes_eq word (codes "remote") ≡ t → cond t (Some form.Remote) (cond (bytes_eq word (codes "json")) (Some form.Json) (cond (bytes_eq word (codes "view")) (Some form.View) None)) ≡ Some f → word ≡ form_word f
+    by_remote true h g = same_bytes word (codes "remote") h ∙ ap form_word (some_is form.Remote f g)
+    by_remote false h g = by_json (bytes_eq word (codes "json")) refl g
+
+    by_table : (t : Bool) → bytes_eq word (codes "table") ≡ t
+        → cond t (Some form.Table) (cond (bytes_eq word (codes "remote")) (Some form.Remote) (cond (bytes_eq word (codes "json")) (Some form.Json) (cond (bytes_eq word (codes "view")) (Some form.View) None))) ≡ Some f → word ≡ form_word f
     by_table true h g = same_bytes word (codes "table") h ∙ ap form_word (some_is form.Table f g)
     by_table false h g = by_remote (bytes_eq word (codes "remote")) refl g
 
     by_csv : (t : Bool) → bytes_eq word (codes "csv") ≡ t
-        → cond t (Some form.Csv) (cond (bytes_eq word (codes "table")) (Some form.Table) (cond (bytes_eq word (codes "remote")) (Some form.Remote) None)) ≡ Some f → word ≡ form_word f
+        → cond t (Some form.Csv) (cond (bytes_eq word (codes "table")) (Some form.Table) (cond (bytes_eq word (codes "remote")) (Some form.Remote) (cond (bytes_eq word (codes "json")) (Some form.Json) (cond (bytes_eq word (codes "view")) (Some form.View) None))))
+        ≡ Some f
+        → word ≡ form_word f
     by_csv true h g = same_bytes word (codes "csv") h ∙ ap form_word (some_is form.Csv f g)
     by_csv false h g = by_table (bytes_eq word (codes "table")) refl g
 
-    by_bracket : (t : Bool) → bytes_eq word (codes "bracket") ≡ t
-        → cond t (Some form.Bracket) (cond (bytes_eq word (codes "csv")) (Some form.Csv) (cond (bytes_eq word (codes "table")) (Some form.Table) (cond (bytes_eq word (codes "remote")) (Some form.Remote) None))) ≡ Some f
-        → word ≡ form_word f
+    by_bracket : (t : Bool) → bytes_eq word (codes "bracket") ≡ t → cond t (Some form.Bracket) (not_bracket word) ≡ Some f → word ≡ form_word f
     by_bracket true h g = same_bytes word (codes "bracket") h ∙ ap form_word (some_is form.Bracket f g)
     by_bracket false h g = by_csv (bytes_eq word (codes "csv")) refl g
 
@@ -87,6 +102,8 @@ prefix_of-given name form.Bracket named = let passes : is_source_name name ≡ t
 prefix_of-given name form.Csv named = let passes : is_source_name name ≡ true = name_passes name named in rw passes refl
 prefix_of-given name form.Table named = let passes : is_source_name name ≡ true = name_passes name named in rw passes refl
 prefix_of-given name form.Remote named = let passes : is_source_name name ≡ true = name_passes name named in rw passes refl
+prefix_of-given name form.Json named = let passes : is_source_name name ≡ true = name_passes name named in rw passes refl
+prefix_of-given name form.View named = let passes : is_source_name name ≡ true = name_passes name named in rw passes refl
 
 -- what stands after a file is that of the source found of it, which is of the form
 record AfterIs (f : Form) (name file after : List ℕ) (s : SourceSpec) : Type 0 where
@@ -141,6 +158,15 @@ after_found form.Remote name file after s e =
     let m = mapped_some (remote name file) (remote_of after) s e in
     let spells : IsRemote after m.0 = remote_found after m.0 m.1 in
     subst (AfterIs form.Remote name file after) m.2 (record { name_is = refl; file_is = refl; form_is = refl; spells = (refl, spells) })
+after_found form.Json name file after s e =
+    let m = mapped_some (json name file) (chunk_of (words_of after)) s e in
+    let spells : SpellsCutting m.0 false after = words_found after m.0 m.1 in
+    subst (AfterIs form.Json name file after) m.2 (record { name_is = refl; file_is = refl; form_is = refl; spells = spells })
+after_found form.View name file after s e = by_words (words_of after) refl e
+  where
+    by_words : (ws : List (List ℕ)) → words_of after ≡ ws → view name file ws ≡ Some s → AfterIs form.View name file after s
+    by_words [] h f = subst (AfterIs form.View name file after) (some_is _ s f) (record { name_is = refl; file_is = refl; form_is = refl; spells = (refl, h) })
+    by_words (w ∷ ws) h f = none_some s f
 
 -- a source that is found where FILE begins is spelled
 found_is_spelled : (line prefix x : List ℕ) (at : ℕ) (o : Option Prefix) (seen : Seen) (s : SourceSpec) → IsUtf8 line → line ≡ prefix ++ x → IsTrue (ends_blank true prefix) → prefix_of (words_of prefix) ≡ o
@@ -198,6 +224,8 @@ after_given name chunk (Csv file labels) after h = csv_given name file labels ch
 after_given name chunk (Table file of key columns) after h = ap (option_map (table name file)) (table_given chunk of key columns (words_of after) h)
 after_given name chunk (Remote replies requests number) after (one, h) =
     ap (option_map (remote name replies)) (remote_given after requests number h) ∙ ap (λ n. Some (record { name = name; chunk = n; kind = Remote replies requests number })) (sym one)
+after_given name chunk (Json file) after h = ap (option_map (json name file)) (words_given after chunk h)
+after_given name chunk (View file) after (one, none) = ap (view name file) none ∙ ap (λ n. Some (record { name = name; chunk = n; kind = View file })) (sym one)
 
 -- a source that is spelled in a line is found there
 pub spelled_found : (line : List ℕ) (s : SourceSpec) → Spells line s → line_source line ≡ Some s

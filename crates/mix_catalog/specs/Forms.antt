@@ -7,7 +7,7 @@ use Rattle.mix_tree.specs.Names.{is_name_byte}
 use Rattle.mix_words.specs.Words.{words_of, ends_word}
 use Rattle.mix_catalog.specs.declared.form.Cutting.{Cutting}
 use Rattle.mix_catalog.specs.declared.form.Form.{Form}
-use Rattle.mix_catalog.specs.declared.form.Form.TheVariants.{Bracket, Csv, Table, Remote}
+use Rattle.mix_catalog.specs.declared.form.Form.TheVariants.{Bracket, Csv, Table, Remote, Json, View}
 use Rattle.mix_catalog.specs.declared.form.Prefix.{Prefix}
 
 -- whether a word may name a source: one or more ASCII letters, digits, _ and -
@@ -16,7 +16,11 @@ is_source_name word = nat_le 1 (length word) && list_all is_name_byte word
 
 -- the form that a word names
 abbrev pub form_of : List ℕ → Option Form
-form_of word = cond (bytes_eq word (codes "bracket")) (Some Bracket) (cond (bytes_eq word (codes "csv")) (Some Csv) (cond (bytes_eq word (codes "table")) (Some Table) (cond (bytes_eq word (codes "remote")) (Some Remote) None)))
+form_of word =
+    cond (bytes_eq word (codes "bracket")) (Some Bracket)
+    (cond (bytes_eq word (codes "csv")) (Some Csv)
+    (cond (bytes_eq word (codes "table")) (Some Table) (cond (bytes_eq word (codes "remote")) (Some Remote)
+    (cond (bytes_eq word (codes "json")) (Some Json) (cond (bytes_eq word (codes "view")) (Some View) None)))))
 
 -- the words before a file that have this name and this form
 abbrev pub prefix_with : List ℕ → Form → Prefix

@@ -9,7 +9,7 @@ use Rattle.mix_words.specs.Words.{words_of, ends_word, is_sql_name}
 use Rattle.mix_catalog.specs.declared.column.Column.{Column}
 use Rattle.mix_catalog.specs.declared.source.SourceSpec.{SourceSpec}
 use Rattle.mix_catalog.specs.declared.source.SourceKind.{SourceKind}
-use Rattle.mix_catalog.specs.declared.source.SourceKind.TheVariants.{Bracket, Csv, Table, Remote}
+use Rattle.mix_catalog.specs.declared.source.SourceKind.TheVariants.{Bracket, Csv, Table, Remote, Json, View}
 use Rattle.mix_catalog.specs.declared.form.Form.{Form}
 use Rattle.mix_catalog.specs.declared.form.Form.TheVariants as form
 use Rattle.mix_catalog.specs.Columns.{SpellsColumns}
@@ -71,6 +71,8 @@ form_in (Bracket file deep) = form.Bracket
 form_in (Csv file columns) = form.Csv
 form_in (Table file table key columns) = form.Table
 form_in (Remote replies requests number) = form.Remote
+form_in (Json file) = form.Json
+form_in (View file) = form.View
 
 -- the word of a form
 abbrev pub form_word : Form → List ℕ
@@ -78,6 +80,8 @@ form_word form.Bracket = codes "bracket"
 form_word form.Csv = codes "csv"
 form_word form.Table = codes "table"
 form_word form.Remote = codes "remote"
+form_word form.Json = codes "json"
+form_word form.View = codes "view"
 
 -- the file of a source; of a remote one, the file of its replies
 abbrev pub file_of : SourceKind → List ℕ
@@ -85,6 +89,17 @@ file_of (Bracket file deep) = file
 file_of (Csv file columns) = file
 file_of (Table file table key columns) = file
 file_of (Remote replies requests number) = replies
+file_of (Json file) = file
+file_of (View file) = file
+
+-- whether a source is a view
+abbrev pub is_view : SourceKind → Bool
+is_view (Bracket file deep) = false
+is_view (Csv file columns) = false
+is_view (Table file table key columns) = false
+is_view (Remote replies requests number) = false
+is_view (Json file) = false
+is_view (View file) = true
 
 -- the names of the columns of a source
 abbrev pub columns_of : SourceKind → List (List ℕ)
@@ -92,13 +107,18 @@ columns_of (Bracket file deep) = []
 columns_of (Csv file columns) = columns
 columns_of (Table file table key columns) = map (λ (c : Column). c.name) columns
 columns_of (Remote replies requests number) = []
+columns_of (Json file) = []
+columns_of (View file) = []
 
--- what stands after the file: a bracket source's cutting; a CSV source's columns, and its chunk; a table, and its chunk; a remote source's requests and number, its chunk being 1
+-- what stands after the file: a bracket source's cutting; a CSV source's columns, and its chunk; a table, and its chunk; a remote source's requests and number, its chunk being 1;
+-- a JSON file's chunk; nothing after the file of a view, whose chunk is 1
 abbrev pub SpellsAfter : ℕ → SourceKind → List ℕ → Type 0
 SpellsAfter chunk (Bracket file deep) text = SpellsCutting chunk deep text
 SpellsAfter chunk (Csv file columns) text = SpellsBetween (codes "columns" ∷ []) (SpellsColumns columns) (SpellsCutting chunk false) text
 SpellsAfter chunk (Table file table key columns) text = AreTableWords chunk table key columns (words_of text)
 SpellsAfter chunk (Remote replies requests number) text = (chunk ≡ 1) × SpellsBetween [] (λ x. SpellsLabel x requests) (SpellsNumber number) text
+SpellsAfter chunk (Json file) text = SpellsCutting chunk false text
+SpellsAfter chunk (View file) text = (chunk ≡ 1) × (words_of text ≡ [])
 
 -- the words before the file
 abbrev pub prefix_words : List ℕ → Form → List (List ℕ)

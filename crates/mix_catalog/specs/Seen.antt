@@ -1,5 +1,5 @@
 -- The source of a line, as it is found: the words before FILE, the label that is seen there, and what stands after it.
-use Rattle.std.specs.Prelude.{ℕ, cond, List, Option, Some, None, option_map, option_and_then, take, drop}
+use Rattle.std.specs.Prelude.{ℕ, cond, List, [], ◌∷◌, Option, Some, None, option_map, option_and_then, take, drop}
 use Rattle.mix_tree.specs.LabelMachine.{Seen, got, unexpected, ends, start, seen_from}
 use Rattle.mix_words.specs.Words.{words_of, ends_word}
 use Rattle.mix_catalog.specs.declared.form.Cutting.{Cutting}
@@ -9,10 +9,10 @@ use Rattle.mix_catalog.specs.declared.form.Prefix.{Prefix}
 use Rattle.mix_catalog.specs.declared.remote.RemoteAfter.{RemoteAfter}
 use Rattle.mix_catalog.specs.declared.source.SourceSpec.{SourceSpec}
 use Rattle.mix_catalog.specs.declared.table.TableAfter.{TableAfter}
-use Rattle.mix_catalog.specs.declared.source.SourceKind.TheVariants.{Bracket, Csv, Table, Remote}
+use Rattle.mix_catalog.specs.declared.source.SourceKind.TheVariants.{Bracket, Csv, Table, Remote, Json, View}
 use Rattle.mix_catalog.specs.Columns.{columns_at}
 use Rattle.mix_catalog.specs.Columns as columns
-use Rattle.mix_catalog.specs.Forms.{prefix_of, cutting_of, chunk_after, is_columns_word}
+use Rattle.mix_catalog.specs.Forms.{prefix_of, cutting_of, chunk_of, chunk_after, is_columns_word}
 use Rattle.mix_catalog.specs.Remotes.{remote_of}
 use Rattle.mix_catalog.specs.Tables.{table_of}
 use Rattle.mix_words.specs.Places.{place_of_word}
@@ -33,6 +33,15 @@ table name file t = record { name = name; chunk = t.chunk; kind = Table file t.t
 abbrev pub remote : List ℕ → List ℕ → RemoteAfter → SourceSpec
 remote name replies r = record { name = name; chunk = 1; kind = Remote replies r.requests r.number }
 
+-- the JSON source of a name, a file and a chunk
+abbrev pub json : List ℕ → List ℕ → ℕ → SourceSpec
+json name file chunk = record { name = name; chunk = chunk; kind = Json file }
+
+-- the view of a name and a file, where no words stand after the file
+abbrev pub view : List ℕ → List ℕ → List (List ℕ) → Option SourceSpec
+view name file [] = Some (record { name = name; chunk = 1; kind = View file })
+view name file (word ∷ words) = None
+
 -- the CSV source of what is seen of its columns
 abbrev pub columns_seen : List ℕ → List ℕ → Option columns.Seen → Option SourceSpec
 columns_seen name file None = None
@@ -48,6 +57,8 @@ form_after form.Bracket name file after = option_map (bracket name file) (cuttin
 form_after form.Csv name file after = option_and_then (csv_at name file after) (place_of_word 1 after)
 form_after form.Table name file after = option_map (table name file) (table_of (words_of after))
 form_after form.Remote name file after = option_map (remote name file) (remote_of after)
+form_after form.Json name file after = option_map (json name file) (chunk_of (words_of after))
+form_after form.View name file after = view name file (words_of after)
 
 -- the source of what stands before its file, of the file, and of what stands after it
 abbrev pub source_after : Prefix → List ℕ → List ℕ → Option SourceSpec

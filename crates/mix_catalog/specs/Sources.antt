@@ -1,5 +1,6 @@
 -- The sources of a catalog, line by line.
-use Rattle.std.specs.Prelude.{◌≡◌, ◌⊎◌, ◌<◌, ◌≤◌, ◌+◌, ℕ, true, false, IsTrue, IsSome, List, [], ◌∷◌, ◌++◌, length, take, get_or, position, slice_get, Option, Some, None, Result, Ok, Err}
+use Rattle.std.specs.Prelude.{◌≡◌, ◌⊎◌, ◌<◌, ◌≤◌, ◌+◌, ℕ, Bool, true, false, ◌||◌, ◌&&◌, not, IsTrue, IsSome, List, [], ◌∷◌, ◌++◌, length, take, get_or, position, slice_get, Option, Some, None, Result, Ok, Err}
+use Rattle.std.specs.List.{list_any, list_all, filter}
 use Rattle.std.specs.Str.{bytes_eq}
 use Rattle.mix_tree.specs.Names.{IsName}
 use Rattle.mix_words.specs.Lines.{lines_of, is_passed}
@@ -7,7 +8,7 @@ use Rattle.mix_catalog.specs.declared.source.SourceSpec.{SourceSpec}
 use Rattle.mix_catalog.specs.declared.fault.CatalogFault.{CatalogFault}
 use Rattle.mix_catalog.specs.declared.fault.CatalogFault.TheVariants.{Line, Chunk, Columns, ColumnTwice, NameTwice, TooMany, OutOfMemory}
 use Rattle.mix_catalog.specs.Columns.{are_apart}
-use Rattle.mix_catalog.specs.Grammar.{columns_of, Spells, SpellsNone}
+use Rattle.mix_catalog.specs.Grammar.{columns_of, is_view, Spells}
 
 -- the number of the source of a name: its place in the list, from 0
 abbrev pub source_named : List SourceSpec → List ℕ → Option ℕ
@@ -33,10 +34,35 @@ pub record IsTakenBy (before : List SourceSpec) (s : SourceSpec) : Type 0 where
   pub name : source_named before s.name ≡ None
   pub room : length before < 32
 
+-- whether one of the sources is a view
+abbrev pub has_view : List SourceSpec → Bool
+has_view sources = list_any (λ s. is_view s.kind) sources
+
+-- whether all views stand after the others
+abbrev pub views_last : List SourceSpec → Bool
+views_last [] = true
+views_last (s ∷ sources) = (not (is_view s.kind) || list_all (λ t. is_view t.kind) sources) && views_last sources
+
+-- the sources that are no views
+abbrev pub base_of : List SourceSpec → List SourceSpec
+base_of sources = filter (λ s. not (is_view s.kind)) sources
+
+-- a source may stand after these: it is a view, or none of them is
+abbrev pub IsInPlace : List SourceSpec → SourceSpec → Type 0
+IsInPlace before s = (is_view s.kind || not (has_view before)) ≡ true
+
+-- the line spells a source that may stand after these
+abbrev pub Fits : List SourceSpec → List ℕ → SourceSpec → Type 0
+Fits before line s = Spells line s × IsInPlace before s
+
+-- the line spells no source that may stand after these
+abbrev pub FitsNone : List SourceSpec → List ℕ → Type 0
+FitsNone before line = (s : SourceSpec) → Fits before line s → ⊥
+
 -- the sources after a line: those before it where it is passed over, and else one more
 abbrev pub Adds : List SourceSpec → List ℕ → List SourceSpec → Type 0
 Adds before line after =
-    (IsTrue (is_passed line) × (after ≡ before)) ⊎ ((is_passed line ≡ false) × (s : SourceSpec) × Spells line s × IsTakenBy before s × (after ≡ before ++ s ∷ []))
+    (IsTrue (is_passed line) × (after ≡ before)) ⊎ ((is_passed line ≡ false) × (s : SourceSpec) × Fits before line s × IsTakenBy before s × (after ≡ before ++ s ∷ []))
 
 -- lines after these sources are accepted, and these are the sources in the end
 abbrev pub Accepts : List SourceSpec → List (List ℕ) → List SourceSpec → Type 0
@@ -57,13 +83,13 @@ RefusesSource before s number (NameTwice n) = (n ≡ number) × IsChunk s.chunk 
 RefusesSource before s number (TooMany n) = (n ≡ number) × IsChunk s.chunk × AreColumns (columns_of s.kind) × (source_named before s.name ≡ None) × (32 ≤ length before)
 RefusesSource before s number OutOfMemory = Unit {0}
 
--- the line of this number, which isn't passed over, spells a source that isn't taken
+-- the line of this number, which isn't passed over, spells a source that may stand there and isn't taken
 abbrev pub IsNotTaken : List SourceSpec → List ℕ → ℕ → CatalogFault → Type 0
-IsNotTaken before line number e = (is_passed line ≡ false) × (s : SourceSpec) × Spells line s × RefusesSource before s number e
+IsNotTaken before line number e = (is_passed line ≡ false) × (s : SourceSpec) × Fits before line s × RefusesSource before s number e
 
 -- the fault of the line of this number after these sources
 abbrev pub IsFault : List SourceSpec → List ℕ → ℕ → CatalogFault → Type 0
-IsFault before line number (Line n) = (n ≡ number) × (is_passed line ≡ false) × SpellsNone line
+IsFault before line number (Line n) = (n ≡ number) × (is_passed line ≡ false) × FitsNone before line
 IsFault before line number (Chunk n) = IsNotTaken before line number (Chunk n)
 IsFault before line number (Columns n) = IsNotTaken before line number (Columns n)
 IsFault before line number (ColumnTwice n) = IsNotTaken before line number (ColumnTwice n)

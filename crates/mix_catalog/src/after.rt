@@ -1,7 +1,7 @@
 // What stands after the file of a line: how its source is cut, and its columns, or which of another machine's sources it is.
 ghost use Rattle.std.specs.Prelude.{◌≡◌, IfOk, IsUtf8};
 ghost use Rattle.mix_words.specs.Words.{words_of};
-ghost use Rattle.mix_catalog.specs.declared.form.Form.TheVariants.{Bracket, Csv, Table, Remote};
+ghost use Rattle.mix_catalog.specs.declared.form.Form.TheVariants.{Bracket, Csv, Table, Remote, Json, View};
 ghost use Rattle.mix_catalog.specs.Forms.{chunk_after, is_columns_word};
 ghost use Rattle.mix_catalog.specs.Seen.{form_after, source_after};
 
@@ -131,6 +131,44 @@ fn read_remote(
     }))
 }
 
+// The JSON source of what stands after its file.
+fn read_json(
+    alloc: Global,
+    name: Label,
+    file: Label,
+    after: &[u8],
+) -> Result<Option<SourceSpec>, AllocError>
+    ensures { IfOk result (λ found. found ≡ form_after Json name file after.now) }
+{
+    let words = cut_words(alloc, after)?;
+    let Some(chunk) = read_chunk(&words) else {
+        return Ok(None);
+    };
+    let kind = SourceKind::Json { file };
+    Ok(Some(SourceSpec { name, chunk, kind }))
+}
+
+// The view of what stands after its file, which is nothing.
+fn read_view(
+    alloc: Global,
+    name: Label,
+    file: Label,
+    after: &[u8],
+) -> Result<Option<SourceSpec>, AllocError>
+    ensures { IfOk result (λ found. found ≡ form_after View name file after.now) }
+{
+    let words = cut_words(alloc, after)?;
+    if !words.is_empty() {
+        return Ok(None);
+    }
+    let kind = SourceKind::View { file };
+    Ok(Some(SourceSpec {
+        name,
+        chunk: 1,
+        kind,
+    }))
+}
+
 /// The source of what stands before a file, of the file, and of what stands after it; `None` where that fits no form.
 pub fn read_after(
     alloc: Global,
@@ -149,5 +187,7 @@ pub fn read_after(
         Form::Csv => read_csv(alloc, prefix.name, file, after),
         Form::Table => read_table(alloc, prefix.name, file, after),
         Form::Remote => read_remote(alloc, prefix.name, file, after),
+        Form::Json => read_json(alloc, prefix.name, file, after),
+        Form::View => read_view(alloc, prefix.name, file, after),
     }
 }

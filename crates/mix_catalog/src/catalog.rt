@@ -1,7 +1,7 @@
 // A catalog: its sources in order, found by their names.
-ghost use Rattle.std.specs.Prelude.{◌≡◌, ◌<◌, ◌≤◌, ◌++◌, ◌∷◌, [], length, Some, None, OnOk, OnErr, slice_get};
+ghost use Rattle.std.specs.Prelude.{◌≡◌, ◌<◌, ◌≤◌, ◌++◌, ◌∷◌, [], length, take, Some, None, IfOk, OnOk, OnErr, slice_get, true};
 ghost use Rattle.mix_tree.specs.Names.{IsName};
-ghost use Rattle.mix_catalog.specs.Sources.{source_named};
+ghost use Rattle.mix_catalog.specs.Sources.{source_named, has_view, views_last, base_of, IsInPlace};
 
 use crate::SourceSpec;
 use indexmap::IndexMap;
@@ -39,10 +39,11 @@ impl Catalog {
         }
     }
 
-    /// How many sources there are, at most 32.
+    /// How many sources there are, at most 32. Views stand after the others.
     pub fn len(&self) -> u32
         ensures len { result ≡ length self.now }
         ensures few { result ≤ 32 }
+        ensures last { views_last self.now ≡ true }
     {
         self.sources.len() as u32
     }
@@ -67,10 +68,35 @@ impl Catalog {
         Some(at as u32)
     }
 
+    /// Whether one of the sources is a view.
+    pub(crate) fn has_view(&self) -> bool
+        ensures { result ≡ has_view self.now }
+    {
+        self.sources.values().any(|source| source.kind.is_view())
+    }
+
+    /// The catalog of the sources that are no views, with the numbers that they have here.
+    pub fn base(&self, alloc: Global) -> Result<Catalog, AllocError>
+        ensures base { IfOk result (λ c. c ≡ base_of self.now) }
+        ensures numbers { base_of self.now ≡ take (length (base_of self.now)) self.now }
+    {
+        let count = self.len();
+        let mut base = Catalog::new(alloc);
+        for s in 0..count {
+            let source = self.spec(s);
+            if source.kind.is_view() {
+                break;
+            }
+            base.add(alloc, source.copy(alloc)?)?;
+        }
+        Ok(base)
+    }
+
     /// Adds a source after the others. An error leaves the catalog as it was.
     pub(crate) fn add(&mut self, alloc: Global, spec: SourceSpec) -> Result<(), AllocError>
         requires named { IsName spec.name }
         requires new { source_named self.old spec.name ≡ None }
+        requires place { IsInPlace self.old spec }
         requires room { length self.old < 32 }
         ensures ok { OnOk result (self.new ≡ self.old ++ spec ∷ []) }
         ensures err { OnErr result (self.new ≡ self.old) }

@@ -1,10 +1,11 @@
 // The columns that a catalog declares.
-ghost use Rattle.std.specs.Prelude.{◌≡◌, map};
+ghost use Rattle.std.specs.Prelude.{◌≡◌, map, IfOk};
 ghost use Rattle.std.specs.List.{list_any};
 ghost use Rattle.std.specs.Str.{bytes_eq};
 ghost use Rattle.mix_catalog.specs.Columns.{are_apart};
 
 use mix_tree::{Label, same_label};
+use std::alloc::{AllocError, Global};
 use std::marker::Model;
 
 /// A column of a table.
@@ -68,4 +69,32 @@ impl<T> ColumnList<T> {
     {
         &self.columns
     }
+}
+
+/// A copy of the names.
+pub(crate) fn copy_names(alloc: Global, names: &ColumnNames) -> Result<ColumnNames, AllocError>
+    ensures { IfOk result (λ copy. copy ≡ names.now) }
+{
+    let mut copy = Vec::new(alloc);
+    for name in names.as_slice() {
+        copy.push(name.copy(alloc)?)?;
+    }
+    Ok(ColumnNames::new(copy))
+}
+
+/// A copy of the columns.
+pub(crate) fn copy_columns(
+    alloc: Global,
+    columns: &TableColumns,
+) -> Result<TableColumns, AllocError>
+    ensures { IfOk result (λ copy. copy ≡ columns.now) }
+{
+    let mut copy = Vec::new(alloc);
+    for column in columns.as_slice() {
+        copy.push(Column {
+            name: column.name.copy(alloc)?,
+            never_null: column.never_null,
+        })?;
+    }
+    Ok(TableColumns::new(copy))
 }

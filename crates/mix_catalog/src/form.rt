@@ -16,6 +16,8 @@ pub enum Form {
     Csv,
     Table,
     Remote,
+    Json,
+    View,
 }
 
 /// What stands before the file of a line.
@@ -65,6 +67,10 @@ fn read_form(word: &[u8]) -> Option<Form>
         Some(Form::Table)
     } else if word == b"remote".as_slice() {
         Some(Form::Remote)
+    } else if word == b"json".as_slice() {
+        Some(Form::Json)
+    } else if word == b"view".as_slice() {
+        Some(Form::View)
     } else {
         None
     }

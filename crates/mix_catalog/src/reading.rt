@@ -3,7 +3,7 @@ ghost use Rattle.std.specs.Prelude.{◌≡◌, ◌++◌, ◌∷◌, [], List, Re
 ghost use Rattle.mix_catalog.specs.declared.source.SourceSpec.{SourceSpec};
 ghost use Rattle.mix_catalog.specs.declared.fault.CatalogFault.{CatalogFault};
 ghost use Rattle.mix_tree.specs.Names.{IsName};
-ghost use Rattle.mix_catalog.specs.Sources.{IsTakenBy, RefusesSource, Adds, IsFault, Answers, SameAnswer};
+ghost use Rattle.mix_catalog.specs.Sources.{IsInPlace, IsTakenBy, RefusesSource, Adds, IsFault, Answers, SameAnswer};
 
 use crate::line::read_source;
 use crate::{Catalog, CatalogFault, SourceSpec};
@@ -49,7 +49,8 @@ fn add_source(
     source: SourceSpec,
     number: usize,
 ) -> Result<(), CatalogFault>
-    requires { IsName source.name }
+    requires named { IsName source.name }
+    requires place { IsInPlace catalog.old source }
     ensures ok { OnOk result (IsTakenBy catalog.old source × (catalog.new ≡ catalog.old ++ source ∷ [])) }
     ensures err { IfErr result (RefusesSource catalog.old source number) }
 {
@@ -79,6 +80,10 @@ fn add_line(
     let Some(source) = read_source(alloc, line)? else {
         return Err(CatalogFault::Line(number));
     };
+    if !source.kind.is_view() && catalog.has_view() {
+        drop(source);
+        return Err(CatalogFault::Line(number));
+    }
     add_source(alloc, catalog, source, number)
 }
 
@@ -87,7 +92,8 @@ fn add_line(
 /// # Errors
 ///
 /// The first line that is not accepted decides, and of the causes that it has, the first of these: `Line`, `Chunk`,
-/// `Columns`, `ColumnTwice`, `NameTwice`, `TooMany`, each with the line's number. `OutOfMemory` can come with any text.
+/// `Columns`, `ColumnTwice`, `NameTwice`, `TooMany`, each with the line's number. A source that is no view fits no
+/// line after one. `OutOfMemory` can come with any text.
 pub fn read_catalog(alloc: Global, text: &[u8]) -> Result<Catalog, CatalogFault>
     // The answer is that of the text: its sources, or why it is no catalog.
     ensures answers { Answers text.now result }

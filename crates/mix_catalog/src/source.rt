@@ -1,19 +1,20 @@
 // What a catalog says of a source.
-ghost use Rattle.std.specs.Prelude.{◌≡◌, length};
+ghost use Rattle.std.specs.Prelude.{◌≡◌, length, IfOk};
 ghost use Rattle.mix_catalog.specs.Columns.{are_apart};
-ghost use Rattle.mix_catalog.specs.Grammar.{columns_of, file_of};
+ghost use Rattle.mix_catalog.specs.Grammar.{columns_of, file_of, is_view};
 
-use crate::column::are_named_apart;
+use crate::column::{are_named_apart, copy_columns, copy_names};
 use crate::columns::are_apart;
 use crate::{ColumnNames, TableColumns};
 use mix_tree::Label;
+use std::alloc::{AllocError, Global};
 
 /// A source of a catalog.
 #[derive(Drop)]
 pub struct SourceSpec {
     /// The source's name.
     pub name: Label,
-    /// The most children that a fill of the source gives; 1 for a remote source, whose lists the other side cuts.
+    /// The most children that a fill of the source gives; 1 for a view, and for a remote source, whose lists the other side cuts.
     pub chunk: u32,
     /// What the source is.
     pub kind: SourceKind,
@@ -46,9 +47,72 @@ pub enum SourceKind {
         requests: Label,
         number: u32,
     },
+    /// A JSON file. A fill gives some children of a node.
+    Json {
+        file: Label,
+    },
+    /// A view in a file, over the catalog's sources of the other kinds. A fill gives one node.
+    View {
+        file: Label,
+    },
+}
+
+impl SourceSpec {
+    /// A copy of what is said of the source.
+    pub(crate) fn copy(&self, alloc: Global) -> Result<SourceSpec, AllocError>
+        ensures { IfOk result (λ s. s ≡ self.now) }
+    {
+        Ok(SourceSpec {
+            name: self.name.copy(alloc)?,
+            chunk: self.chunk,
+            kind: self.kind.copy(alloc)?,
+        })
+    }
 }
 
 impl SourceKind {
+    // A copy of what the source is.
+    fn copy(&self, alloc: Global) -> Result<SourceKind, AllocError>
+        ensures { IfOk result (λ k. k ≡ self.now) }
+    {
+        match self {
+            SourceKind::Bracket { file, deep } => Ok(SourceKind::Bracket {
+                file: file.copy(alloc)?,
+                deep: *deep,
+            }),
+            SourceKind::Csv { file, columns } => Ok(SourceKind::Csv {
+                file: file.copy(alloc)?,
+                columns: copy_names(alloc, columns)?,
+            }),
+            SourceKind::Table {
+                file,
+                table,
+                key,
+                columns,
+            } => Ok(SourceKind::Table {
+                file: file.copy(alloc)?,
+                table: table.copy(alloc)?,
+                key: key.copy(alloc)?,
+                columns: copy_columns(alloc, columns)?,
+            }),
+            SourceKind::Remote {
+                replies,
+                requests,
+                number,
+            } => Ok(SourceKind::Remote {
+                replies: replies.copy(alloc)?,
+                requests: requests.copy(alloc)?,
+                number: *number,
+            }),
+            SourceKind::Json { file } => Ok(SourceKind::Json {
+                file: file.copy(alloc)?,
+            }),
+            SourceKind::View { file } => Ok(SourceKind::View {
+                file: file.copy(alloc)?,
+            }),
+        }
+    }
+
     /// The path of the source's file; of a remote source it is the file of replies.
     pub fn file(&self) -> &Label
         ensures { result.now ≡ file_of self.now }
@@ -58,10 +122,19 @@ impl SourceKind {
             SourceKind::Csv { file, .. } => file,
             SourceKind::Table { file, .. } => file,
             SourceKind::Remote { replies, .. } => replies,
+            SourceKind::Json { file } => file,
+            SourceKind::View { file } => file,
         }
     }
 
-    /// How many columns the source has; a bracket source and a remote one have none.
+    /// Whether the source is a view.
+    pub fn is_view(&self) -> bool
+        ensures { result ≡ is_view self.now }
+    {
+        matches!(self, SourceKind::View { .. })
+    }
+
+    /// How many columns the source has; only CSV sources and tables have some.
     pub fn column_count(&self) -> usize
         ensures { result ≡ length (columns_of self.now) }
     {
@@ -69,7 +142,7 @@ impl SourceKind {
             SourceKind::Bracket { .. } => 0,
             SourceKind::Csv { columns, .. } => columns.as_slice().len(),
             SourceKind::Table { columns, .. } => columns.as_slice().len(),
-            SourceKind::Remote { .. } => 0,
+            SourceKind::Remote { .. } | SourceKind::Json { .. } | SourceKind::View { .. } => 0,
         }
     }
 
@@ -81,7 +154,7 @@ impl SourceKind {
             SourceKind::Bracket { .. } => true,
             SourceKind::Csv { columns, .. } => are_apart(columns.as_slice()),
             SourceKind::Table { columns, .. } => are_named_apart(columns.as_slice()),
-            SourceKind::Remote { .. } => true,
+            SourceKind::Remote { .. } | SourceKind::Json { .. } | SourceKind::View { .. } => true,
         }
     }
 }

@@ -33,6 +33,7 @@ stood_in a mid b old now opened link came later most = record {
   came = came_after a mid b opened.came later;
   fills = fills (came.fills opened.link.told);
   faults = λ s times h. each s times (came.faults opened.link.told s) h;
+  earlier = λ s. (let none = never_failed old.peers s opened.unfilled in omega (arith, none));
 }
   where
     fills : (now.link.peer.fills + old.fills ≤ old.link.peer.fills + now.fills) ⊎ (2 ^ 64 - 1 ≤ now.fills) → b.fills + old.fills ≤ a.fills + now.fills

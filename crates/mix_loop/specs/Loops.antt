@@ -34,9 +34,10 @@ pub record IsOpened (a mid : Reaching) (r : Remoting) : Type 0 where
   pub unfilled : AreUnfilled r.peers
 
 -- sources that meant the first view before and mean the second after stood in for others: they tell the documents of these, of which no more fills
--- were asked than of them, and which failed each time that they did
+-- were asked than of them, and which failed each time that they did, and as often before at least
 pub record StandIn (old new : View) (a b : Reaching) : Type 0 where
   pub tells : Tells old (reach.view_of a)
   pub came : CameFrom a b
   pub fills : b.fills + old.fills ≤ a.fills + new.fills
   pub faults : (s times : ℕ) → HasRisenBy times (old.faults s) (new.faults s) → HasRisenBy times ((reach.view_of a).faults s) ((reach.view_of b).faults s)
+  pub earlier : (s : ℕ) → old.faults s ≤ (reach.view_of a).faults s

@@ -2,7 +2,7 @@
 use Rattle.std.proofs.Common.{◌≡◌, ◌∙◌, ◌≤◌, ◌+◌, ℕ, true, false, cond, IsTrue, IfSome, is_some, List, Option, Some, None, refl, sym, subst, ap, arith, slice_get, map}
 use Rattle.mix_tree.specs.Forest.{Forest, alone}
 use Rattle.mix_catalog.specs.declared.source.SourceKind.{SourceKind}
-use Rattle.mix_catalog.specs.declared.source.SourceKind.TheVariants.{Bracket, Csv, Table, Remote}
+use Rattle.mix_catalog.specs.declared.source.SourceKind.TheVariants.{Bracket, Csv, Table, Remote, Json, View}
 use Rattle.mix_catalog.specs.declared.source.SourceSpec.{SourceSpec}
 use Rattle.browse_class.specs.Classes.{BoundedTolls, class_in}
 use Rattle.browse_visit.specs.Layouts.{IsLaid, Layout, any_trees}
@@ -51,6 +51,8 @@ module _ (files : FilesAreLaid) (tables : TablesAreLaid) (before : Outside) (ops
       rows_laid spec.name d f (before.stores.tables.told d) (subst (λ (o : Option Declared). is_table_told before.stores.tables o ≡ true) declares told)
       (declared s d (record { spec = spec; there = at; read = read; declares = declares })) (is.rows d declares)
   kind_laid s spec f at read told is (Remote replies requests number) e = tt
+  kind_laid s spec f at read told is (Json file) e = tt
+  kind_laid s spec f at read told is (View file) e = tt
 
   -- the layout of a source that the plan reads, and of another one any
   abbrev read_layout : ℕ → Layout

@@ -23,7 +23,7 @@ use Rattle.plan_core.specs.Plans.{Operator}
 use Rattle.xmas_read.specs.Results.{names_of_sources}
 use Rattle.mix_top.specs.Answered.{MayFail, RunsWithoutTablesAreUnmarked, all_told, is_far_told, is_spec_told, is_table_told, told_from}
 use Rattle.mix_top.specs.Documents.{far_in}
-use Rattle.mix_top.proofs.SourceKinds.{each_is_one, file_is_apart}
+use Rattle.mix_top.proofs.SourceKinds.{each_is_one, file_is_apart, view_is_apart}
 use Rattle.view_class.specs.Reads.{reads_source}
 
 -- an answer that is no fault is no fault either where a name may hold no place
@@ -116,7 +116,8 @@ is_file ops sources none s spec at read =
     elim (each_is_one spec.kind) as (λ _. (declared_in spec.kind ≡ None) × (far_in spec.kind ≡ None)) [
       | inl e ↦ file_is_apart spec.kind e
       | inr (inl found) ↦ absurd (none s (inl (found.0, record { spec = spec; there = at; read = here; declares = found.1 })))
-      | inr (inr found) ↦ absurd (none s (inr (found.0, record { spec = spec; there = at; read = here; declares = found.1 })))
+      | inr (inr (inl found)) ↦ absurd (none s (inr (found.0, record { spec = spec; there = at; read = here; declares = found.1 })))
+      | inr (inr (inr view)) ↦ view_is_apart spec.kind view
     ]
 
 -- a run of a plan that reads no table and no source of another machine

@@ -5,10 +5,10 @@ ghost use Rattle.mix_io.specs.Views.{FilesView, KeepsFiles, ReadsOnly};
 ghost use Rattle.xmas_rule.specs.RuleMade.{rule_of};
 ghost use Rattle.xmas_rule.specs.Rules.{IsAccepted};
 ghost use Rattle.xmas_read.specs.Results.{names_of_sources};
-ghost use Rattle.mix_top.specs.Causes.{IsRead, IsNoBytes, IsNoCatalog, IsNoPlan, IsNoRule, IsNoScript, IsNoTable, IsNoTree};
+ghost use Rattle.mix_top.specs.Causes.{IsRead, IsNoBytes, IsNoCatalog, IsNoJson, IsNoPlan, IsNoRule, IsNoScript, IsNoTable, IsNoTree};
 ghost use Rattle.plan_core.specs.PlanMade.{plan_value};
 ghost use Rattle.mix_top.specs.Course.{IsCatalogFile, IsPlanFile, IsRuleFile, IsScript};
-ghost use Rattle.mix_top.specs.Documents.{HoldsRows, SpellsTree};
+ghost use Rattle.mix_top.specs.Documents.{HoldsRows, HoldsValue, SpellsTree};
 ghost use Rattle.mix_top.specs.Stops.{IsLoadStop};
 ghost use Rattle.mix_top.specs.Mounted.{IsMounted};
 ghost use Rattle.mix_top.specs.Mounting.{IsMountedFile};
@@ -18,6 +18,7 @@ use crate::refusal::{FileFault, Stop, refused};
 use bracket_text::read_document;
 use bracket_wrap::BracketDoc;
 use csv_wrap::CsvDoc;
+use json_text::read_json;
 use mix_catalog::{Catalog, SourceSpec, read_catalog};
 use mix_io::{Files, ReadWhole, read_whole};
 use mix_mount::{Mount, Mounted};
@@ -91,6 +92,27 @@ pub fn mount_table<F: Files>(
     }
 }
 
+/// The value of a JSON file, mounted as the document of a source. An error is as with `mount_tree`.
+pub fn mount_value<F: Files>(
+    alloc: Global,
+    files: &mut F,
+    path: &str,
+    source: &SourceSpec,
+) -> Result<Mount, Stop>
+    requires { IsChunk source.now.chunk }
+    ensures keeps { KeepsFiles (F.view files.old) (F.view files.new) }
+    ensures others { ReadsOnly path.now (F.view files.old) (F.view files.new) }
+    ensures steady { OnOk result ((p : List ℕ) → (F.view files.new).faults p ≡ (F.view files.old).faults p) }
+    ensures ok { IfOk result (IsMountedFile (HoldsValue source.now.name) (F.view files.old) path.now source.now.chunk false) }
+    ensures err { IfErr result (IsLoadStop IsNoJson (F.view files.old) (F.view files.new) path.now) }
+{
+    let bytes = load(alloc, files, path)?;
+    match read_json(alloc, &source.name, &bytes) {
+        Ok(nodes) => Ok(Mount::Bracket(BracketDoc::open(nodes, source.chunk, false))),
+        Err(fault) => Err(refused(alloc, path, FileFault::Json(fault))),
+    }
+}
+
 /// The tree that a file spells as the only source, given one child at a time. An error is as with `mount_tree`.
 pub fn mount_alone<F: Files>(
     alloc: Global,
@@ -122,7 +144,7 @@ pub fn load_script<F: Files>(alloc: Global, files: &mut F, path: &str) -> Result
     }
 }
 
-/// The catalog that a file spells. An error is as with `mount_tree`.
+/// The sources of the catalog that a file spells, but for its views. An error is as with `mount_tree`.
 pub fn load_catalog<F: Files>(alloc: Global, files: &mut F, path: &str) -> Result<Catalog, Stop>
     ensures keeps { KeepsFiles (F.view files.old) (F.view files.new) }
     ensures others { ReadsOnly path.now (F.view files.old) (F.view files.new) }
@@ -132,7 +154,7 @@ pub fn load_catalog<F: Files>(alloc: Global, files: &mut F, path: &str) -> Resul
 {
     let bytes = load(alloc, files, path)?;
     match read_catalog(alloc, &bytes) {
-        Ok(catalog) => Ok(catalog),
+        Ok(catalog) => Ok(catalog.base(alloc)?),
         Err(fault) => Err(refused(alloc, path, FileFault::Catalog(fault))),
     }
 }

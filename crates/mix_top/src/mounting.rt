@@ -1,16 +1,17 @@
 // The documents of sources, those that a plan reads or all, read and mounted one after another.
 ghost use Rattle.std.specs.Prelude.{◌≡◌, ◌≤◌, List, ℕ, true, false, length, slice_get, Some, OnOk, IfOk, IfErr};
-ghost use Rattle.mix_catalog.specs.Sources.{IsCatalog, IsChunk};
+ghost use Rattle.mix_catalog.specs.Grammar.{is_view};
+ghost use Rattle.mix_catalog.specs.Sources.{IsChunk};
 ghost use Rattle.mix_io.specs.Views.{FilesView, KeepsFiles};
 ghost use Rattle.mix_mount.specs.declared.mount.Mount.TheVariants.{Absent};
 ghost use Rattle.plan_core.specs.PlanMade.{plan_value};
 ghost use Rattle.mix_top.specs.Course.{every};
-ghost use Rattle.mix_top.specs.Mounting.{AllAreMounted, AreMounted, IsMountStop, IsMountedSpec, IsMountFor, IsSourceStop, IsSpecStop};
+ghost use Rattle.mix_top.specs.Mounting.{AllAreMounted, AreMounted, IsBase, IsMountStop, IsMountedSpec, IsMountFor, IsSourceStop, IsSpecStop};
 ghost use Rattle.mix_top.specs.FilesRead.{ChosenMayRead, SourceMayRead};
 ghost use Rattle.mix_top.specs.Reading.{ReadsAmong, IsFileFor, IsWholeFile};
 ghost use Rattle.view_class.specs.Reads.{reads_source};
 
-use crate::load::{mount_table, mount_tree};
+use crate::load::{mount_table, mount_tree, mount_value};
 use crate::refusal::Stop;
 use mix_catalog::{Catalog, SourceKind, SourceSpec};
 use mix_io::Files;
@@ -32,10 +33,11 @@ fn path_of(file: &Label) -> &str
     }
 }
 
-// The document of a source, given as the catalog says. That of a table asks for no page yet, and of a source of another machine nothing is
-// mounted. An error is as with `mount_tree`.
+// The document of a source that is no view, given as the catalog says. That of a table asks for no page yet, and of a source of another machine
+// nothing is mounted. An error is as with `mount_tree`.
 fn mount_spec<F: Files>(alloc: Global, files: &mut F, spec: &SourceSpec) -> Result<Mount, Stop>
-    requires { IsChunk spec.now.chunk }
+    requires chunk { IsChunk spec.now.chunk }
+    requires other { is_view spec.now.kind ≡ false }
     ensures keeps { KeepsFiles (F.view files.old) (F.view files.new) }
     ensures reads { ReadsAmong (IsWholeFile spec.now) (F.view files.old) (F.view files.new) }
     ensures steady { OnOk result ((p : List ℕ) → (F.view files.new).faults p ≡ (F.view files.old).faults p) }
@@ -50,7 +52,8 @@ fn mount_spec<F: Files>(alloc: Global, files: &mut F, spec: &SourceSpec) -> Resu
             mount_table(alloc, files, path_of(file), spec, columns.as_slice())
         }
         SourceKind::Table { .. } => Ok(Mount::Table(TableDoc::open(alloc, spec)?)),
-        SourceKind::Remote { .. } => Ok(Mount::Absent),
+        SourceKind::Json { file } => mount_value(alloc, files, path_of(file), spec),
+        SourceKind::Remote { .. } | SourceKind::View { .. } => Ok(Mount::Absent),
     }
 }
 
@@ -62,7 +65,8 @@ fn mount_source<F: Files>(
     s: u32,
     spec: &SourceSpec,
 ) -> Result<Mount, Stop>
-    requires { IsChunk spec.now.chunk }
+    requires chunk { IsChunk spec.now.chunk }
+    requires other { is_view spec.now.kind ≡ false }
     ensures keeps { KeepsFiles (F.view files.old) (F.view files.new) }
     ensures reads { ReadsAmong (IsFileFor (reads_source (plan_value plan.now).ops) s spec.now) (F.view files.old) (F.view files.new) }
     ensures steady { OnOk result ((p : List ℕ) → (F.view files.new).faults p ≡ (F.view files.old).faults p) }
@@ -76,7 +80,7 @@ fn mount_source<F: Files>(
     }
 }
 
-/// The mounts of a catalog's sources for a plan, by their numbers: the documents of those that the plan reads, read in the order of the
+/// The mounts of a catalog's sources, none of them a view, for a plan, by their numbers: the documents of those that the plan reads, read in the order of the
 /// catalog, each accepted before the next is read, and `Absent` for all others. An error names the first file that is refused.
 pub fn mount_sources<F: Files>(
     alloc: Global,
@@ -84,7 +88,7 @@ pub fn mount_sources<F: Files>(
     catalog: &Catalog,
     plan: &Plan,
 ) -> Result<Vec<Mount>, Stop>
-    requires { (text : List ℕ) × IsCatalog text catalog.now }
+    requires { IsBase catalog.now }
     ensures keeps { KeepsFiles (F.view files.old) (F.view files.new) }
     ensures reads { let old = F.view files.old in
         ReadsAmong (SourceMayRead old (plan_value plan.now).ops catalog.now) old (F.view files.new) }
@@ -100,14 +104,14 @@ pub fn mount_sources<F: Files>(
     Ok(docs)
 }
 
-/// The mounts of all sources of a catalog, by their numbers: their documents, read in the order of the catalog, each accepted before the next is read.
+/// The mounts of all sources of a catalog, none of them a view, by their numbers: their documents, read in the order of the catalog, each accepted before the next is read.
 /// That of a table asks for no page yet. An error names the first file that is refused.
 pub fn mount_all<F: Files>(
     alloc: Global,
     files: &mut F,
     catalog: &Catalog,
 ) -> Result<Vec<Mount>, Stop>
-    requires { (text : List ℕ) × IsCatalog text catalog.now }
+    requires { IsBase catalog.now }
     ensures keeps { KeepsFiles (F.view files.old) (F.view files.new) }
     ensures reads { ReadsAmong (ChosenMayRead (F.view files.old) every catalog.now) (F.view files.old) (F.view files.new) }
     ensures steady { OnOk result ((p : List ℕ) → (F.view files.new).faults p ≡ (F.view files.old).faults p) }

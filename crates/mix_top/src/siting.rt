@@ -33,9 +33,11 @@ fn read_site(alloc: Global, spec: &SourceSpec) -> Result<Site, AllocError>
                 number,
             }))
         }
-        SourceKind::Bracket { .. } | SourceKind::Csv { .. } | SourceKind::Table { .. } => {
-            Ok(Site::Here)
-        }
+        SourceKind::Bracket { .. }
+        | SourceKind::Csv { .. }
+        | SourceKind::Table { .. }
+        | SourceKind::Json { .. }
+        | SourceKind::View { .. } => Ok(Site::Here),
     }
 }
 

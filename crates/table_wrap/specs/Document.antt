@@ -10,7 +10,7 @@ use Rattle.table_keep.specs.Page.{IsPageOf, first_above, is_above}
 use Rattle.table_keep.specs.Rows.{Row}
 use Rattle.table_keep.specs.Views.{Declared, TablesView}
 use Rattle.mix_catalog.specs.declared.source.SourceKind.{SourceKind}
-use Rattle.mix_catalog.specs.declared.source.SourceKind.TheVariants.{Bracket, Csv, Table, Remote}
+use Rattle.mix_catalog.specs.declared.source.SourceKind.TheVariants.{Bracket, Csv, Table, Remote, Json, View}
 use Rattle.table_wrap.specs.declared.document.TableDoc.{TableDoc}
 use Rattle.table_wrap.specs.declared.parts.Part.{Part}
 use Rattle.table_wrap.specs.declared.parts.Part.TheVariants.{Name, Rows}
@@ -136,6 +136,8 @@ is_table_of (Bracket file deep) = false
 is_table_of (Csv file columns) = false
 is_table_of (Table file table key columns) = true
 is_table_of (Remote replies requests number) = false
+is_table_of (Json file) = false
+is_table_of (View file) = false
 
 -- the table that a source declares, where it is one
 abbrev pub declared_in : SourceKind → Option Declared
@@ -143,3 +145,5 @@ declared_in (Bracket file deep) = None
 declared_in (Csv file columns) = None
 declared_in (Table file table key columns) = Some (record { file = file; table = table; key = key; columns = columns })
 declared_in (Remote replies requests number) = None
+declared_in (Json file) = None
+declared_in (View file) = None

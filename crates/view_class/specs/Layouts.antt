@@ -2,7 +2,7 @@
 use Rattle.std.specs.Prelude.{ℕ, true, List, map, Option, Some, None, slice_get}
 use Rattle.mix_catalog.specs.declared.column.Column.{Column}
 use Rattle.mix_catalog.specs.declared.source.SourceKind.{SourceKind}
-use Rattle.mix_catalog.specs.declared.source.SourceKind.TheVariants.{Bracket, Csv, Table, Remote}
+use Rattle.mix_catalog.specs.declared.source.SourceKind.TheVariants.{Bracket, Csv, Table, Remote, Json, View}
 use Rattle.mix_catalog.specs.declared.source.SourceSpec.{SourceSpec}
 use Rattle.browse_visit.specs.declared.visit.TableColumn.{TableColumn}
 use Rattle.browse_visit.specs.Layouts.{Layout, no_trees, a_tree, any_rows, any_trees}
@@ -20,12 +20,14 @@ declared_column column = record { label = column.name; has_value = column.never_
 abbrev pub rows_layout : List ℕ → List TableColumn → Layout
 rows_layout name columns = a_tree name (any_rows row_label (row_of columns)) no_trees
 
--- how the documents of a source of this name and kind are laid out: of bracket text, and of a source of another machine, nothing is known
+-- how the documents of a source of this name and kind are laid out: of bracket text, of a source of another machine and of a view, nothing is known
 abbrev pub kind_layout : List ℕ → SourceKind → Layout
 kind_layout name (Bracket file deep) = any_trees
 kind_layout name (Csv file columns) = rows_layout name (map field_column columns)
 kind_layout name (Table file table key columns) = rows_layout name (map declared_column columns)
 kind_layout name (Remote replies requests number) = any_trees
+kind_layout name (Json file) = any_trees
+kind_layout name (View file) = any_trees
 
 -- how the documents of a source are laid out
 abbrev pub spec_layout : SourceSpec → Layout

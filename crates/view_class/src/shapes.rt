@@ -44,7 +44,10 @@ fn spec_shape(alloc: Global, spec: &SourceSpec) -> Result<Shape, AllocError>
     ensures { IfOk result (λ shape. shape_layout shape ≡ spec_layout spec.now) }
 {
     match &spec.kind {
-        SourceKind::Bracket { .. } | SourceKind::Remote { .. } => Ok(Shape::Any),
+        SourceKind::Bracket { .. }
+        | SourceKind::Remote { .. }
+        | SourceKind::Json { .. }
+        | SourceKind::View { .. } => Ok(Shape::Any),
         SourceKind::Csv { columns, .. } => {
             let name = spec.name.copy(alloc)?;
             let columns = field_columns(alloc, columns.as_slice())?;

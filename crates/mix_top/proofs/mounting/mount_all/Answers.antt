@@ -2,14 +2,17 @@ use Rattle.std.proofs.Common.{◌≡◌, ◌+◌, List, subst, sym, arith, lengt
 use Rattle.std.proofs.lemmas.Result.{err_from_is_err_and}
 use Rattle.mix_mount.specs.declared.mount.Mount.{Mount}
 use Rattle.mix_top.specs.Course.{every}
-use Rattle.mix_top.proofs.Chunks.{chunk_in_range}
+use Rattle.mix_top.proofs.Chunks.{mountable}
 use Rattle.mix_top.proofs.MountLaws.{AreMountedTo, steady_twice, mounted_more, all_mounted, mount_stops, spec_mounted, spec_stops}
 use Rattle.mix_top.proofs.FilesRead.{mounted_reads, source_reads, whole_reads}
 use Rattle.mix_top.proofs.ReadingLaws.{reads_sources}
 use Rattle.mix_top.proofs.mounting.mount_all.Goals as goal
 
-pub mount_spec-requires : goal.mount_spec-requires
-mount_spec-requires g c = chunk_in_range c.requires.0 c.args.catalog.now c.loop-s.s c.spec.result.now c.requires.1 c.spec.ensures.spec
+pub mount_spec-requires-clause-chunk : goal.mount_spec-requires-clause-chunk
+mount_spec-requires-clause-chunk g c = (mountable c.args.catalog.now c.loop-s.s c.spec.result.now c.requires c.spec.ensures.spec).0
+
+pub mount_spec-requires-clause-other : goal.mount_spec-requires-clause-other
+mount_spec-requires-clause-other g c = (mountable c.args.catalog.now c.loop-s.s c.spec.result.now c.requires c.spec.ensures.spec).1
 
 pub returns-in_err-mount_spec-clause-err : goal.returns-in_err-mount_spec-clause-err
 returns-in_err-mount_spec-clause-err g c =

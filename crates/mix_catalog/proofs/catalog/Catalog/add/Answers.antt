@@ -2,7 +2,7 @@ use Rattle.std.proofs.Common.{◌≡◌, ◌<◌, ◌∙◌, ◌++◌, ◌∷◌
 use Rattle.std.proofs.lemmas.List.{map-append, length-map}
 use Rattle.mix_catalog.specs.declared.source.SourceSpec.{SourceSpec}
 use Rattle.mix_catalog.specs.Kept.{IsKept}
-use Rattle.mix_catalog.specs.Sources.{source_named}
+use Rattle.mix_catalog.specs.Sources.{source_named, IsInPlace}
 use Rattle.mix_catalog.proofs.Finds.{IsKept-push, new_last}
 use Rattle.mix_catalog.proofs.catalog.Catalog.add.Goals as goal
 use Rattle.mix_catalog.proofs.catalog.Catalog.add.Goals.{in-Ok-insert, in-Err}
@@ -20,7 +20,7 @@ kept_more : (c : goal.Joined-insert) → c.insert.new.self.entries ≡ c.self.in
 kept_more c e =
     let es = c.self.inside.sources.entries in
     let few : length es < 32 = omega (arith, c.requires.room, ap length c.self.view_is, length-map es (λ (e : Vec ℕ Global × SourceSpec). e.1)) in
-    IsKept-push es c.insert.new.self.entries c.in-Ok.name c.args.spec e (named c) c.self.invariant few c.requires.named (new c)
+    IsKept-push es c.insert.new.self.entries c.in-Ok.name c.args.spec e (named c) c.self.invariant few c.requires.named (new c) (subst (λ (sources : _). IsInPlace sources c.args.spec) (sym c.self.view_is) c.requires.place)
 
 pub invariant_of-self : goal.invariant_of-self
 invariant_of-self c = elim c.match-insert.branch [
