@@ -1,6 +1,5 @@
 -- What an explanation comes to.
-use Rattle.std.specs.Prelude.{◌≡◌, ◌⊎◌, ℕ, List, [], ◌++◌, length, cond, Option, Some, None, codes}
-use Rattle.std.specs.Str.{bytes_eq}
+use Rattle.std.specs.Prelude.{◌≡◌, ◌⊎◌, ℕ, List, [], ◌++◌}
 use Rattle.mix_io.specs.Views.{FilesView}
 use Rattle.mix_io.specs.declared.whole.ReadWhole.{ReadWhole}
 use Rattle.mix_io.specs.declared.whole.ReadWhole.TheVariants.{Failed, OutOfMemory}
@@ -15,7 +14,7 @@ use Rattle.refusal_words.specs.Catalog.{ExplainsCatalog}
 use Rattle.refusal_words.specs.View.{ExplainsView}
 use Rattle.view_report.specs.Report.{Reports}
 use Rattle.mix_top.specs.declared.refusal.FileFault.{FileFault}
-use Rattle.mix_top.specs.declared.refusal.FileFault.TheVariants.{Unread, TooLong, Document, Table, Catalog, Script, View, Plan as PlanText}
+use Rattle.mix_top.specs.declared.refusal.FileFault.TheVariants.{Unread, TooLong, Document, Table, Json, Catalog, Script, View, Plan as PlanText}
 use Rattle.mix_top.specs.Causes.{IsCause, IsNoCatalog, IsNoRule, IsRead, IsRefusalLine, status_of}
 use Rattle.mix_top.specs.Course.{IsCatalogFile, IsRuleFile}
 use Rattle.mix_top.specs.Reading.{ReadsAmong}
@@ -38,6 +37,7 @@ IsSaid names files path Unread words = words ≡ []
 IsSaid names files path TooLong words = words ≡ []
 IsSaid names files path (Document e) words = words ≡ []
 IsSaid names files path (Table e) words = words ≡ []
+IsSaid names files path (Json e) words = words ≡ []
 IsSaid names files path (Catalog e) words = (text : List ℕ) × IsRead files path text × ExplainsCatalog text words
 IsSaid names files path (Script e) words = words ≡ []
 IsSaid names files path (View e) words = (text : List ℕ) × IsRead files path text × ExplainsView text names e words

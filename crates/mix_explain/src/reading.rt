@@ -13,7 +13,7 @@ use std::alloc::{AllocError, Global};
 use xmas_read::read_rule;
 use xmas_rule::Rule;
 
-/// The catalog that a file spells, or why the file is refused. `Err`: memory.
+/// The sources of the catalog that a file spells, but for its views, or why the file is refused. `Err`: memory.
 pub fn read_catalog_file<F: Files>(
     alloc: Global,
     files: &mut F,
@@ -28,7 +28,7 @@ pub fn read_catalog_file<F: Files>(
         Err(fault) => return Ok(Answer::Refused(unread(alloc, path, fault)?)),
     };
     match read_catalog(alloc, &bytes) {
-        Ok(catalog) => Ok(Answer::Accepted(catalog)),
+        Ok(catalog) => Ok(Answer::Accepted(catalog.base(alloc)?)),
         Err(fault) => {
             let words = catalog_words(alloc, &bytes, fault)?;
             let explained = refusal_with(alloc, path, FileFault::Catalog(fault), &words)?;

@@ -1,5 +1,5 @@
 -- What is said of the paths of a plan that lead nowhere.
-use Rattle.std.specs.Prelude.{ℕ, ◌||◌, cond, List, [], ◌∷◌, ◌++◌, Option, Some, None, slice_get, codes}
+use Rattle.std.specs.Prelude.{ℕ, ◌||◌, cond, List, [], ◌++◌, Option, Some, None, slice_get, codes}
 use Rattle.browse_visit.specs.Shapes.{shape_at}
 use Rattle.browse_visit.specs.declared.shape.Shape.{Shape}
 use Rattle.browse_visit.specs.declared.shape.Sorts.{Sorts}

@@ -141,11 +141,7 @@ fn mending(fault: CatalogFault) -> &'static str {
 
 /// A catalog's fault in words: its line and column, that line with a mark below, and what could stand there, or how it can be mended. Of a line that fits no
 /// form the mark is below the first word with which no line of a form goes on. Each line ends with LF. `Err`: memory.
-pub fn catalog_words(
-    alloc: Global,
-    text: &[u8],
-    fault: CatalogFault,
-) -> Result<Vec<u8>, AllocError>
+pub fn catalog_words(alloc: Global, text: &[u8], fault: CatalogFault) -> Result<Vec<u8>, AllocError>
     ensures { IfOk result (λ words. ExplainsCatalog text.now words.items) }
 {
     let begin = line_begin(text, line_number(fault));

@@ -14,77 +14,94 @@ const SOURCE: FormWord = FormWord {
     spelling: "source",
     name: "source",
 };
+
 const NAME: FormWord = FormWord {
     spelling: "x",
     name: "a name for the source",
 };
+
 const BRACKET_WORD: FormWord = FormWord {
     spelling: "bracket",
     name: "bracket",
 };
+
 const CSV_WORD: FormWord = FormWord {
     spelling: "csv",
     name: "csv",
 };
+
 const TABLE_WORD: FormWord = FormWord {
     spelling: "table",
     name: "table",
 };
+
 const REMOTE_WORD: FormWord = FormWord {
     spelling: "remote",
     name: "remote",
 };
+
 const FILE: FormWord = FormWord {
     spelling: "f",
     name: "a file",
 };
+
+const JSON_WORD: FormWord = FormWord {
+    spelling: "json",
+    name: "json",
+};
+
+const VIEW_WORD: FormWord = FormWord {
+    spelling: "view",
+    name: "view",
+};
+
 const REQUESTS: FormWord = FormWord {
     spelling: "g",
     name: "the file of requests",
 };
+
 const TABLE_NAME: FormWord = FormWord {
     spelling: "t",
     name: "the name of a table",
 };
+
 const KEY_WORD: FormWord = FormWord {
     spelling: "key",
     name: "key",
 };
+
 const KEY: FormWord = FormWord {
     spelling: "k",
     name: "the name of the key",
 };
+
 const COLUMNS_WORD: FormWord = FormWord {
     spelling: "columns",
     name: "columns",
 };
+
 const COLUMNS: FormWord = FormWord {
     spelling: "a",
     name: "the names of columns, with commas and no blanks between them",
 };
+
 const CHUNK: FormWord = FormWord {
     spelling: "chunk",
     name: "chunk",
 };
+
 const NUMBER: FormWord = FormWord {
     spelling: "1",
     name: "a number",
 };
+
 const DEEP: FormWord = FormWord {
     spelling: "deep",
     name: "deep",
 };
 
 // The words of a file of bracket text.
-const BRACKET: &[FormWord] = &[
-    SOURCE,
-    NAME,
-    BRACKET_WORD,
-    FILE,
-    CHUNK,
-    NUMBER,
-    DEEP,
-];
+const BRACKET: &[FormWord] = &[SOURCE, NAME, BRACKET_WORD, FILE, CHUNK, NUMBER, DEEP];
 
 // The words of a CSV file.
 const CSV: &[FormWord] = &[
@@ -114,17 +131,16 @@ const TABLE: &[FormWord] = &[
 ];
 
 // The words of a source of another machine.
-const REMOTE: &[FormWord] = &[
-    SOURCE,
-    NAME,
-    REMOTE_WORD,
-    FILE,
-    REQUESTS,
-    NUMBER,
-];
+const REMOTE: &[FormWord] = &[SOURCE, NAME, REMOTE_WORD, FILE, REQUESTS, NUMBER];
+
+// The words of a JSON file.
+const JSON: &[FormWord] = &[SOURCE, NAME, JSON_WORD, FILE, CHUNK, NUMBER];
+
+// The words of a view.
+const VIEW: &[FormWord] = &[SOURCE, NAME, VIEW_WORD, FILE];
 
 /// The forms of a line.
-pub const FORMS: &[&[FormWord]] = &[BRACKET, CSV, TABLE, REMOTE];
+pub const FORMS: &[&[FormWord]] = &[BRACKET, CSV, TABLE, REMOTE, JSON, VIEW];
 
 // The text of a line: a front, a separator, and the words of a form that are left.
 fn line_with(

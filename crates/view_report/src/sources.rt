@@ -14,9 +14,12 @@ fn reading_of(kind: &SourceKind) -> &'static str
     ensures { result.now ≡ reading_of kind.now }
 {
     match kind {
-        SourceKind::Bracket { .. } | SourceKind::Csv { .. } => ": its file is read whole at the start\n",
+        SourceKind::Bracket { .. } | SourceKind::Csv { .. } | SourceKind::Json { .. } => {
+            ": its file is read whole at the start\n"
+        }
         SourceKind::Table { .. } => ": its table is read by pages, as steps need rows\n",
         SourceKind::Remote { .. } => ": the other side is asked for pieces, as steps need them\n",
+        SourceKind::View { .. } => ": it is a view, of which a step asks no more than it needs\n",
     }
 }
 
