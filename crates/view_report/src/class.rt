@@ -12,11 +12,13 @@ fn meaning_of(class: Class) -> &'static str
     ensures { result.now ≡ meaning_of class }
 {
     match class {
-        Class::Bounded(_) => "no step down or right asks for more pieces than this, where tables hold what the catalog says of them\n",
+        Class::Bounded(_) =>
+            "no step down or right asks for more pieces than this, where tables hold what the catalog says of them\n",
         Class::Browsable => {
             "no number is known: a step goes on until it finds its node, and may have to pass over any number of others\n"
         }
-        Class::Unbrowsable => "a list is sorted by ORDER BY, so that its first step needs the whole of it\n",
+        Class::Unbrowsable =>
+            "a list is sorted by ORDER BY, so that its first step needs the whole of it\n",
     }
 }
 
