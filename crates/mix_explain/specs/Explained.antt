@@ -15,9 +15,8 @@ use Rattle.refusal_words.specs.View.{ExplainsView}
 use Rattle.view_report.specs.Report.{Reports}
 use Rattle.mix_top.specs.declared.refusal.FileFault.{FileFault}
 use Rattle.mix_top.specs.declared.refusal.FileFault.TheVariants.{Unread, TooLong, Document, Table, Json, Catalog, Script, View, Plan as PlanText}
-use Rattle.mix_top.specs.Causes.{IsCause, IsNoCatalog, IsNoRule, IsRead, IsRefusalLine, status_of}
-use Rattle.mix_top.specs.Course.{IsCatalogFile, IsRuleFile}
-use Rattle.mix_top.specs.Reading.{ReadsAmong}
+use Rattle.mix_top.specs.Causes.{IsNoCatalog, IsNoRule, IsRead, IsRefusalLine, status_of}
+use Rattle.mix_top.specs.Course.{IsCatalogFile, IsRefused, IsRuleFile}
 use Rattle.mix_explain.specs.declared.explained.Explained.{Explained}
 
 -- an explanation is the line with which a file is refused for a fault, and given words after it
@@ -45,13 +44,10 @@ IsSaid names files path (PlanText e) words = words ≡ []
 
 -- a file of a kind is refused, with the status and the line of its refusal, and after that line stands what explains it, over sources of given names
 pub record ExplainsRefusal (IsNone : List ℕ → FileFault → Type 0) (names : List (List ℕ)) (old new : FilesView) (path : List ℕ) (status : ℕ) (lines : List ℕ) : Type 0 where
-  pub fault : FileFault
-  pub cause : IsCause IsNone old new path fault
-  pub status_is : status ≡ status_of fault
   pub line : List ℕ
-  pub line_is : IsRefusalLine path fault line
+  pub refused : IsRefused IsNone old new path status line
   pub words : List ℕ
-  pub said : IsSaid names old path fault words
+  pub said : IsSaid names old path refused.fault words
   pub lines_are : lines ≡ line ++ words
 
 -- lines report the plan of a rule over the sources of a catalog
