@@ -52,7 +52,7 @@ pub fn explained<F: Files>(
         Answer::Refused(explained) => return Ok(explained),
     };
     match read_view_file(alloc, files, asked.view, &catalog)? {
-        Answer::Accepted(rule) => report(alloc, &catalog, &rule),
+        Answer::Accepted(rule) => Ok(report(alloc, &catalog, &rule)?),
         Answer::Refused(explained) => Ok(explained),
     }
 }
