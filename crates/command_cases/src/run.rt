@@ -4,6 +4,7 @@ use crate::setting::{Twist, failing, files_of, own_words, streams_of};
 use case_text::{Fault, Part, differing_line, differing_number, part_of, tables_of};
 use far_keep::MemFars;
 use mix_call::{mixq_over, mixq_serve_over};
+use mix_explain::mixq_explain;
 use mix_io::{MemFiles, MemInput, MemSink, Streams};
 use mix_reach::Stores;
 use std::alloc::Global;
@@ -25,7 +26,7 @@ pub struct Wanted<'a> {
     pub pages: Option<u64>,
 }
 
-// A top call alone, that of serving where the first word is `serve`: what it promises is not needed here, and would make the proof of each
+// A top call alone, that of serving where the first word is `serve`, and that of explanations where it is `explain`: what it promises is not needed here, and would make the proof of each
 // function that knows it long.
 fn call(
     alloc: Global,
@@ -35,6 +36,9 @@ fn call(
     streams: &mut Streams<MemInput, MemSink>,
 ) -> (u8, Stores<MemTables, MemFars>) {
     match words {
+        [word, ..] if word.as_str() == "explain" => {
+            (mixq_explain(alloc, words, files, &mut streams.out), stores)
+        }
         [word, ..] if word.as_str() == "serve" => {
             mixq_serve_over(alloc, words, files, stores, streams)
         }

@@ -6,6 +6,7 @@ use far_links::FarLinks;
 use file_dial::FileDial;
 use file_link::FileLink;
 use mix_call::{mixq_over, mixq_serve_over};
+use mix_explain::mixq_explain;
 use mix_io::{OsFiles, StdInput, StdSink, Streams};
 use mix_reach::Stores;
 use sqlite_tables::SqliteTables;
@@ -22,7 +23,7 @@ fn words(rt: &HostRuntime) -> io::Result<Vec<String>> {
     Ok(words)
 }
 
-// The status of a top call, that of serving where the first word is `serve`. It stands apart, since what these calls promise would make the
+// The status of a top call, that of serving where the first word is `serve`, and that of explanations where it is `explain`. It stands apart, since what these calls promise would make the
 // proof of `main` long.
 fn answer(
     alloc: Global,
@@ -32,6 +33,9 @@ fn answer(
     streams: &mut Streams<StdInput, StdSink>,
 ) -> u8 {
     let (status, _) = match words {
+        [word, ..] if word.as_str() == "explain" => {
+            (mixq_explain(alloc, words, files, &mut streams.out), stores)
+        }
         [word, ..] if word.as_str() == "serve" => {
             mixq_serve_over(alloc, words, files, stores, streams)
         }

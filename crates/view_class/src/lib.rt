@@ -11,3 +11,4 @@ pub use classing::class_over;
 pub use law::{plans_read_named_sources, sources_are_laid, unread_sources_dont_matter};
 pub use line::class_line;
 pub use reads::reads_source;
+pub use shapes::shapes_in;

@@ -1,0 +1,8 @@
+//! What an accepted view comes to, in words: its paths that lead nowhere, its class, and how its sources are read.
+#![tactic(auto)]
+
+mod class;
+mod report;
+mod sources;
+
+pub use report::view_report;
