@@ -14,7 +14,7 @@ use Rattle.refusal_words.specs.Catalog.{ExplainsCatalog}
 use Rattle.refusal_words.specs.View.{ExplainsView}
 use Rattle.view_report.specs.Report.{Reports}
 use Rattle.mix_top.specs.declared.refusal.FileFault.{FileFault}
-use Rattle.mix_top.specs.declared.refusal.FileFault.TheVariants.{Unread, TooLong, Document, Table, Json, Catalog, Script, View, Plan as PlanText}
+use Rattle.mix_top.specs.declared.refusal.FileFault.TheVariants.{Unread, TooLong, Document, Csv, Json, Catalog, Script, View, Plan as PlanText}
 use Rattle.mix_top.specs.Causes.{IsNoCatalog, IsNoRule, IsRead, IsRefusalLine, status_of}
 use Rattle.mix_top.specs.Course.{IsCatalogFile, IsRefused, IsRuleFile}
 use Rattle.mix_explain.specs.declared.explained.Explained.{Explained}
@@ -35,7 +35,7 @@ abbrev pub IsSaid : List (List ℕ) → FilesView → List ℕ → FileFault →
 IsSaid names files path Unread words = words ≡ []
 IsSaid names files path TooLong words = words ≡ []
 IsSaid names files path (Document e) words = words ≡ []
-IsSaid names files path (Table e) words = words ≡ []
+IsSaid names files path (Csv e) words = words ≡ []
 IsSaid names files path (Json e) words = words ≡ []
 IsSaid names files path (Catalog e) words = (text : List ℕ) × IsRead files path text × ExplainsCatalog text words
 IsSaid names files path (Script e) words = words ≡ []
