@@ -2,7 +2,7 @@
 ghost use Rattle.std.specs.Prelude.{◌≡◌, ◌≤◌, IfOk, length};
 ghost use Rattle.refusal_words.specs.Catalog.{ExplainsCatalog};
 
-use crate::forms::{FORMS, FormWord, goes_on, goes_on_with};
+use crate::forms::{FORMS, FormWord, goes_on, goes_on_with, may_be_of};
 use crate::listing::push_item;
 use mix_catalog::CatalogFault;
 use mix_words::places::word_place;
@@ -96,6 +96,9 @@ fn push_names(
     form: &[FormWord],
     names: &mut Vec<&'static str>,
 ) -> Result<(), AllocError> {
+    if !may_be_of(front, form) {
+        return Ok(());
+    }
     for passed in 0..=form.len() {
         let name = match form.get(passed) {
             Some(word) => word.name,

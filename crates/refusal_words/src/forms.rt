@@ -1,5 +1,6 @@
 // The forms of a catalog's line, word by word, and with which words a line goes on.
 use mix_catalog::{CatalogFault, read_catalog};
+use mix_words::places::word_place;
 use std::alloc::{AllocError, Global};
 
 /// A word of a form: a spelling that is tried, and the word's name for people.
@@ -142,6 +143,20 @@ const VIEW: &[FormWord] = &[SOURCE, NAME, VIEW_WORD, FILE];
 /// The forms of a line.
 pub const FORMS: &[&[FormWord]] = &[BRACKET, CSV, TABLE, REMOTE, JSON, VIEW];
 
+// Which word of a line names its form, from 0.
+const FORM_WORD: usize = 2;
+
+/// Whether a line with a front may be of a form: where the front has the word that names it, it has that of the form.
+pub fn may_be_of(front: &[u8], form: &[FormWord]) -> bool {
+    let Some(begin) = word_place(front, FORM_WORD) else {
+        return true;
+    };
+    match form.get(FORM_WORD) {
+        Some(word) => front[begin..].starts_with(word.spelling.as_bytes()),
+        None => true,
+    }
+}
+
 // The text of a line: a front, a separator, and the words of a form that are left.
 fn line_with(
     alloc: Global,
@@ -183,6 +198,9 @@ pub fn goes_on_with(alloc: Global, front: &[u8], rest: &[FormWord]) -> Result<bo
 
 // Whether a front goes on with the last words of a form. `Err`: memory.
 fn goes_on_as(alloc: Global, front: &[u8], form: &[FormWord]) -> Result<bool, AllocError> {
+    if !may_be_of(front, form) {
+        return Ok(false);
+    }
     for passed in 0..=form.len() {
         if goes_on_with(alloc, front, &form[passed..])? {
             return Ok(true);
