@@ -1,5 +1,5 @@
 // Files that a command reads whole and accepts, one after another.
-ghost use Rattle.std.specs.Prelude.{◌≡◌, List, ℕ, true, length, OnOk, IfOk, IfErr};
+ghost use Rattle.std.specs.Prelude.{◌≡◌, List, ℕ, true, false, length, OnOk, IfOk, IfErr};
 ghost use Rattle.mix_catalog.specs.Sources.{IsChunk};
 ghost use Rattle.mix_io.specs.Views.{FilesView, KeepsFiles, ReadsOnly};
 ghost use Rattle.xmas_rule.specs.RuleMade.{rule_of};
