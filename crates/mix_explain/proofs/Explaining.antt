@@ -1,5 +1,5 @@
 -- Refusals that are explained.
-use Rattle.std.proofs.Common.{◌≡◌, ◌<◌, ◌≤◌, ℕ, List, [], IfSome, Option, Some, None, refl, sym, length}
+use Rattle.std.proofs.Common.{◌≡◌, ◌≤◌, ℕ, List, [], IfSome, Option, Some, None, refl, sym, length}
 use Rattle.mix_base.specs.Counts.{HasRisen}
 use Rattle.mix_io.specs.Views.{FilesView}
 use Rattle.mix_io.specs.declared.whole.ReadWhole.{ReadWhole}

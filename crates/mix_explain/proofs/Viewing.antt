@@ -1,5 +1,5 @@
 -- What comes of a view after its catalog was accepted.
-use Rattle.std.proofs.Common.{◌≡◌, ℕ, List, IfSome, Option, inl, inr, subst, sym}
+use Rattle.std.proofs.Common.{◌≡◌, ℕ, List, IfSome, Option, inl, inr, subst}
 use Rattle.mix_io.specs.Views.{FilesView, KeepsFiles}
 use Rattle.mix_catalog.specs.declared.source.SourceSpec.{SourceSpec}
 use Rattle.xmas_read.specs.Results.{names_of_sources}

@@ -1,8 +1,7 @@
-use Rattle.std.proofs.Common.{◌≡◌, ◌≤◌, ℕ, List, [], Err, ap, refl, subst, sym, length, arith}
-use Rattle.xmas_read.specs.Results.{names_of_sources, Refuses as RefusesRule, Spells}
+use Rattle.std.proofs.Common.{◌≤◌, ℕ, List, [], Err, ap, refl, subst, sym, length, arith}
 use Rattle.mix_catalog.specs.Sources.{Refuses}
-use Rattle.mix_top.specs.Causes.{IsNoCatalog, IsNoRule, IsRead}
-use Rattle.mix_top.specs.declared.refusal.FileFault.TheVariants.{Catalog, View}
+use Rattle.mix_top.specs.Causes.{IsNoCatalog, IsRead}
+use Rattle.mix_top.specs.declared.refusal.FileFault.TheVariants.{Catalog}
 use Rattle.refusal_words.specs.Catalog.{ExplainsCatalog}
 use Rattle.mix_explain.proofs.Explaining.{explained_for, read_of, unread_explained}
 use Rattle.mix_explain.proofs.reading.read_catalog_file.Goals as goal
@@ -26,6 +25,6 @@ returns-clause-ok g c =
       bytes,
       read,
       subst (λ (words : List ℕ). ExplainsCatalog bytes words) (sym c.deref-in-Err-read_catalog-2.ensures.value)
-      (subst (λ (text : List ℕ). ExplainsCatalog text c.in_ok-words-in-Err-read_catalog.words.items) c.deref-in-Err-read_catalog.ensures.value c.in_ok-words-in-Err-read_catalog.ensures),
+          (subst (λ (text : List ℕ). ExplainsCatalog text c.in_ok-words-in-Err-read_catalog.words.items) c.deref-in-Err-read_catalog.ensures.value c.in_ok-words-in-Err-read_catalog.ensures),
     )
     c.in_ok-explained-in-Err-read_catalog.ensures

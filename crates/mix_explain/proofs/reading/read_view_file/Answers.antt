@@ -1,8 +1,7 @@
-use Rattle.std.proofs.Common.{◌≡◌, ◌≤◌, ℕ, List, [], Err, ap, refl, subst, sym, length, arith}
+use Rattle.std.proofs.Common.{◌≤◌, ℕ, List, Err, ap, refl, subst, sym, length, arith}
 use Rattle.xmas_read.specs.Results.{names_of_sources, Refuses as RefusesRule, Spells}
-use Rattle.mix_catalog.specs.Sources.{Refuses}
-use Rattle.mix_top.specs.Causes.{IsNoCatalog, IsNoRule, IsRead}
-use Rattle.mix_top.specs.declared.refusal.FileFault.TheVariants.{Catalog, View}
+use Rattle.mix_top.specs.Causes.{IsNoRule, IsRead}
+use Rattle.mix_top.specs.declared.refusal.FileFault.TheVariants.{View}
 use Rattle.refusal_words.specs.View.{ExplainsView}
 use Rattle.xmas_rule.specs.RuleMade.{rule_of}
 use Rattle.mix_explain.proofs.Explaining.{explained_for, read_of, unread_explained}
@@ -36,6 +35,6 @@ returns-clause-ok g c =
       bytes,
       read,
       subst (λ (words : List ℕ). ExplainsView bytes names fault words) (sym c.deref-in-Err-read_rule-2.ensures.value)
-      (subst (λ (text : List ℕ). ExplainsView text names fault c.in_ok-words-in-Err-read_rule.words.items) c.deref-in-Err-read_rule.ensures.value c.in_ok-words-in-Err-read_rule.ensures),
+          (subst (λ (text : List ℕ). ExplainsView text names fault c.in_ok-words-in-Err-read_rule.words.items) c.deref-in-Err-read_rule.ensures.value c.in_ok-words-in-Err-read_rule.ensures),
     )
     c.in_ok-explained-in-Err-read_rule.ensures
