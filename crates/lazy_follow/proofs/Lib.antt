@@ -4,4 +4,6 @@ pub mod Groups
 pub mod Nodes
 pub mod OnWay
 pub mod Scopes
+pub mod SingleEvidence
 pub mod Staying
+pub mod ToldLists
