@@ -1,7 +1,12 @@
 pub mod Agreements
 pub mod Choices
+pub mod FollowedLeads
 pub mod Groups
+pub mod LeadsFollowed
 pub mod Nodes
 pub mod OnWay
+pub mod ReachedRows
 pub mod Scopes
+pub mod SingleEvidence
 pub mod Staying
+pub mod ToldLists
