@@ -5,3 +5,4 @@ pub mod Nodes
 pub mod OnWay
 pub mod Scopes
 pub mod Staying
+pub mod StepsBelow

@@ -1,3 +1,4 @@
+pub mod Below
 pub mod Choosing
 pub mod Following
 pub mod Levels

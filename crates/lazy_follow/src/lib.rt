@@ -2,6 +2,7 @@
 #![tactic(auto)]
 
 mod agreeing;
+mod below;
 mod choosing;
 mod evidence;
 mod law;
