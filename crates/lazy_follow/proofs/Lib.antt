@@ -1,6 +1,8 @@
 pub mod Agreements
 pub mod Choices
+pub mod Endings
 pub mod Groups
+pub mod Makes
 pub mod Nodes
 pub mod OnWay
 pub mod Scopes

@@ -4,6 +4,7 @@
 mod agreeing;
 mod below;
 mod choosing;
+mod ends;
 mod evidence;
 mod law;
 mod levels;
