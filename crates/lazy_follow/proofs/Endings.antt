@@ -1,8 +1,7 @@
 -- The tree of a piece at the end of levels, by what it shows.
-use Rattle.std.proofs.Common.{◌≡◌, ◌<◌, ℕ, zero, suc, List, [], ◌∷◌, Option, Some, None, refl, sym, ap, subst, arith, length}
+use Rattle.std.proofs.Common.{◌≡◌, ◌<◌, ℕ, zero, suc, List, [], ◌∷◌, Some, None, refl, sym, subst, arith, length}
 use Rattle.std.specs.Prelude.{IsTrue, slice_index_or}
 use Rattle.std.specs.List.{AllByRecursion}
-use Rattle.mix_tree.specs.Nodes.{Node}
 use Rattle.plan_core.specs.declared.plan.Piece.{Piece}
 use Rattle.plan_core.specs.declared.plan.Piece.TheVariants.{Var as var_piece, LabelOf as label_piece, Text as text_piece}
 use Rattle.plan_core.specs.ByNumber.{op_at}
@@ -14,11 +13,10 @@ use Rattle.plan_core.specs.Valid.{a_node, Kinds, kinds, IsFit, IsPiece, IsSingle
 use Rattle.plan_core.proofs.Groups.{fit_group}
 use Rattle.plan_evidence.specs.Named.{maker, element_list, IsSingle}
 use Rattle.plan_forms.specs.Forms.{form, makes_element, is_text, pieces_of, piece_at, input_of, input_at, IsWritten}
-use Rattle.lazy_plan.specs.Bench.{BenchState, ops_of, documents, node_at, IsSpotAt}
+use Rattle.lazy_plan.specs.Bench.{BenchState, ops_of, documents}
 use Rattle.lazy_seek.specs.declared.places.NodeAt.{NodeAt}
 use Rattle.lazy_follow.specs.declared.mark.Shown.{Shown}
 use Rattle.lazy_follow.specs.declared.mark.Shown.TheVariants.{Whole, Leaf, Element, Text}
-use Rattle.lazy_follow.specs.Below.{IsBelowNode}
 use Rattle.lazy_follow.specs.Choosing.{HasPiece}
 use Rattle.lazy_follow.specs.Ends.{Shows}
 use Rattle.lazy_follow.specs.Following.{Stand, IsUnder, IsUnderVar, nodes_at}
@@ -101,12 +99,3 @@ module _ (st : BenchState) (s : Stand) (piece : Piece) (p : List ℕ) where
   shown_there (Leaf x) h = h.2.spot
   shown_there (Element m) h = (h.4, h.5)
   shown_there (Text m index) h = (h.0, subst (λ y. IsTrue (is_text y)) (sym h.1) h.2)
-
-  -- below a source's node there are the places below it
-  pub node_under : (x : NodeAt) → Shows st (nodes_at (documents st) (ops_of st) s) piece (Whole x)
-      → (Under piece → IsBelowNode (documents st) (node_at st x.source x.spot) p) × (IsBelowNode (documents st) (node_at st x.source x.spot) p → Under piece)
-  node_under x h =
-      (
-        λ u. subst (λ (m : Node). IsBelowNode (documents st) m p) (sym h.3.node) (subst (λ (o : Option ℕ). IsUnderVar (documents st) (ops_of st) s h.0 o p) h.2 (subst Under h.1 u)),
-        λ b. subst Under (sym h.1) (subst (λ (o : Option ℕ). IsUnderVar (documents st) (ops_of st) s h.0 o p) (sym h.2) (subst (λ (m : Node). IsBelowNode (documents st) m p) h.3.node b)),
-      )

@@ -1,6 +1,6 @@
 -- What kinds of values variables hold, by the operators that bind them anew.
-use Rattle.std.proofs.Common.{◌≡◌, ◌⊎◌, inl, inr, ℕ, zero, suc, ◌<◌, ◌≤◌, true, false, cond, List, [], ◌∷◌, Option, Some, None, refl, sym, ap, subst, ◌∙◌, arith, length}
-use Rattle.std.specs.Prelude.{Bool, ◌==◌, slice_index_or}
+use Rattle.std.proofs.Common.{◌≡◌, ◌⊎◌, inl, inr, ℕ, zero, suc, ◌<◌, ◌≤◌, true, false, cond, List, [], ◌∷◌, Option, Some, None, refl, sym, ap, ◌∙◌, arith, length}
+use Rattle.std.specs.Prelude.{◌==◌, slice_index_or}
 use Rattle.std.proofs.lemmas.Bool.{eqb-true}
 use Rattle.std.proofs.lemmas.Bool.Decides.{nat_tests}
 use Rattle.mix_base.specs.Ascents.{Among}
@@ -13,10 +13,10 @@ use Rattle.plan_core.specs.Plans.{Operator, source, get_descendants, join, over,
 use Rattle.plan_core.specs.Unary.{select, order_by, project, group_by, concatenate, create_element}
 use Rattle.plan_core.specs.Shapes.{a_list_of, an_element_of, filters, extends, first_by_keys, one_group, in_order, Shape, one_source, visits_below, pairs_up, passes_on, no_events, shape_of, shape_at}
 use Rattle.plan_core.specs.Typed.{IsTyped}
-use Rattle.plan_core.specs.Valid.{Kind, a_node, an_element, a_list, Kinds, no_kinds, with_kind, kept, made_kind, either_kind, shape_kinds, shape_inputs, shape_outs, outs_of, IsFit, IsSinglePiece, kinds, IsValid}
+use Rattle.plan_core.specs.Valid.{Kind, a_node, a_list, Kinds, no_kinds, with_kind, kept, made_kind, either_kind, shape_kinds, shape_inputs, shape_outs, outs_of, IsFit, IsSinglePiece, kinds, IsValid}
 use Rattle.plan_core.proofs.Fresh.{kept_bound, smaller, kinds-is}
 use Rattle.plan_core.proofs.Groups.{fit_group}
-use Rattle.plan_evidence.specs.Named.{Listing, of_pieces, of_group, maker, listing, element_list, list_of, IsSingle}
+use Rattle.plan_evidence.specs.Named.{of_pieces, of_group, maker, listing, element_list, list_of, IsSingle}
 use Rattle.plan_evidence.proofs.Makers.{made_by}
 use Rattle.plan_forms.specs.Forms.{form, makes_element, pieces_of, input_of, input_at, keys_of, piece_of}
 use Rattle.lazy_follow.specs.Choosing.{MakesGroups}

@@ -1,17 +1,16 @@
 -- Walks below a node.
-use Rattle.std.proofs.Common.{◌≡◌, ◌∙◌, ◌<◌, ◌+◌, ℕ, zero, suc, true, List, [], ◌∷◌, ◌++◌, None, refl, sym, ap, subst, arith, append_assoc, length, take, drop, slice_index}
+use Rattle.std.proofs.Common.{◌≡◌, ◌∙◌, ◌<◌, ◌+◌, ℕ, true, List, [], ◌∷◌, ◌++◌, None, refl, sym, ap, subst, arith, append_assoc, length, take, drop, slice_index}
 use Rattle.std.specs.Prelude.{IsTrue, is_some}
 use Rattle.std.proofs.lemmas.List.{take-append-drop}
 use Rattle.mix_base.proofs.Runs.{take_next}
 use Rattle.mix_tree.specs.Forest.{Forest, none, tree, first_label}
-use Rattle.mix_tree.specs.Nodes.{Documents, Node, node_trees, label_at, kids_at}
-use Rattle.mix_tree.specs.Place.{trees_at, has_place}
+use Rattle.mix_tree.specs.Place.{trees_at}
 use Rattle.mix_tree.proofs.Places.{trees_at-append}
 use Rattle.tree_buffer.specs.declared.spot.Spot.{Spot}
 use Rattle.lazy_binding.specs.World.{place_in}
 use Rattle.lazy_plan.specs.Bench.{BenchState, documents, told, node_at, KeepsBench}
 use Rattle.lazy_seek.specs.declared.places.NodeAt.{NodeAt}
-use Rattle.lazy_seek.specs.Seeks.{node_in, HasNone, GivesPlace}
+use Rattle.lazy_seek.specs.Seeks.{HasNone, GivesPlace}
 use Rattle.lazy_seek.proofs.Matching.{IsOnWay}
 use Rattle.lazy_seek.proofs.Walks.{told_on, child_none}
 use Rattle.lazy_follow.specs.Below.{IsBelowNode}

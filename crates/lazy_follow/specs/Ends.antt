@@ -2,10 +2,10 @@
 use Rattle.std.specs.Prelude.{◌≡◌, ◌<◌, ◌==◌, ℕ, Bool, false, IsTrue, List, Option, Some, None, MatchOption, length}
 use Rattle.mix_tree.specs.Nodes.{Node}
 use Rattle.plan_core.specs.ByNumber.{op_at}
-use Rattle.plan_core.specs.Plans.{Operator, source, get_descendants, join, over, tuple_destroy}
+use Rattle.plan_core.specs.Plans.{Operator, over}
 use Rattle.plan_core.specs.Unary.{create_element}
 use Rattle.plan_core.specs.declared.plan.Piece.{Piece}
-use Rattle.plan_core.specs.declared.plan.Piece.TheVariants.{Var as var_piece, LabelOf as label_piece, Text as text_piece}
+use Rattle.plan_core.specs.declared.plan.Piece.TheVariants.{Var as var_piece, LabelOf as label_piece}
 use Rattle.plan_core.specs.Shapes.{shape_at}
 use Rattle.plan_evidence.specs.Named.{maker, element_list, IsSingle}
 use Rattle.plan_forms.specs.Forms.{form, makes_element, is_text, input_at, piece_at}
@@ -18,7 +18,7 @@ use Rattle.lazy_follow.specs.Choosing.{HasPiece}
 use Rattle.lazy_follow.specs.Following.{Stand, IsUnder}
 use Rattle.lazy_follow.specs.Marks.{IsShown}
 use Rattle.lazy_follow.specs.Scope.{InScope}
-use Rattle.lazy_follow.specs.Spotted.{IsSpotted, nodes_of, StandsFor}
+use Rattle.lazy_follow.specs.Spotted.{IsSpotted, StandsFor}
 
 -- whether an operator makes the elements of a variable
 abbrev pub makes_element_of : Operator → ℕ → Bool

@@ -1,5 +1,4 @@
-use Rattle.std.proofs.Common.{rules, ◌≡◌, ◌∙◌, ◌<◌, ℕ, true, false, sym, ap, subst, arith, length}
-use Rattle.plan_core.specs.ByNumber.{op_at}
+use Rattle.std.proofs.Common.{rules, ◌≡◌, ◌∙◌, ◌<◌, sym, ap, arith, length}
 use Rattle.plan_core.specs.PlanMade.{plan_value}
 use Rattle.plan_core.specs.Plans.{Operator}
 use Rattle.lazy_follow.specs.Ends.{makes_element_of}

@@ -1,12 +1,11 @@
-use Rattle.std.proofs.Common.{rules, arith, ◌≡◌, ◌∙◌, ℕ, List, [], ◌∷◌, refl, sym, ap, subst, length}
-use Rattle.plan_core.specs.PlanMade.{plan_value}
+use Rattle.std.proofs.Common.{rules, arith, ◌≡◌, ℕ, List, [], ◌∷◌, refl, ap, subst, length}
 use Rattle.plan_forms.specs.Forms.{piece_at}
 use Rattle.lazy_plan.specs.Bench.{state_of, ops_of}
 use Rattle.lazy_seek.proofs.Visiting.{sought_within}
 use Rattle.lazy_seek.proofs.Walks.{sought_none}
 use Rattle.lazy_follow.specs.Ends.{Shows, stand_of}
 use Rattle.lazy_follow.specs.Spotted.{nodes_of}
-use Rattle.lazy_follow.proofs.Endings.{bare_under, shown_there, node_under}
+use Rattle.lazy_follow.proofs.Endings.{bare_under, shown_there}
 use Rattle.lazy_follow.proofs.ends.end.Goals as goal
 
 -- a list without members is empty
@@ -29,8 +28,7 @@ returns-then-is_empty g c =
       cause = tt;
       answer = λ places h.
           (let shows = rw c.in-Some.is at (c.shown_of.ensures places (g.S.Sources.view c.args.s.now) c.requires.bench h) in
-          let x = piece_at (ops_of st) t.op t.index in
-          (
+          let x = piece_at (ops_of st) t.op t.index in (
             shown_there st (stand_of places t.here.now) x c.args.inside.now c.in-Some.shown shows,
             λ told. (bare_under st (stand_of places t.here.now) x c.args.inside.now c.in-Some.shown c.in_default-shown.not-Whole shows).1 (no_members c.args.inside.now e),
           ));

@@ -1,9 +1,9 @@
-use Rattle.std.proofs.Common.{◌≡◌, ◌∙◌, ℕ, None, sym, ap, subst}
+use Rattle.std.proofs.Common.{◌∙◌, sym, ap, subst}
 use Rattle.plan_core.specs.declared.plan.Plan.{Plan}
 use Rattle.plan_core.specs.PlanMade.{plan_value}
 use Rattle.plan_core.specs.Valid.{a_node}
 use Rattle.plan_core.specs.ByNumber.{op_at}
-use Rattle.plan_evidence.specs.Named.{element_list, maker}
+use Rattle.plan_evidence.specs.Named.{element_list}
 use Rattle.plan_evidence.proofs.Ways.{way_self}
 use Rattle.plan_forms.specs.Forms.{piece_at}
 use Rattle.lazy_follow.specs.Ends.{IsElementBy}
