@@ -1,12 +1,15 @@
 pub mod Agreements
 pub mod Choices
+pub mod Endings
 pub mod FollowedLeads
 pub mod Groups
 pub mod LeadsFollowed
+pub mod Makes
 pub mod Nodes
 pub mod OnWay
 pub mod ReachedRows
 pub mod Scopes
 pub mod SingleEvidence
 pub mod Staying
+pub mod StepsBelow
 pub mod ToldLists

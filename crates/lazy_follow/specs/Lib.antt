@@ -1,4 +1,6 @@
+pub mod Below
 pub mod Choosing
+pub mod Ends
 pub mod Following
 pub mod Levels
 pub mod Marks

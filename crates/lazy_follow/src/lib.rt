@@ -2,7 +2,9 @@
 #![tactic(auto)]
 
 mod agreeing;
+mod below;
 mod choosing;
+mod ends;
 mod evidence;
 mod law;
 mod levels;
