@@ -1,6 +1,6 @@
 // A path that leads nowhere: for which variable, and from where.
 ghost use Rattle.std.specs.Prelude.{◌≡◌, ◌++◌, IfOk, OnOk, slice_get, codes};
-ghost use Rattle.path_words.specs.Told.{head_line, source_text, start_text};
+ghost use Rattle.path_words.specs.Told.{fails_text, has_nodes, head_line, nowhere_text, source_text, start_text};
 
 use browse_visit::Sorts;
 use mix_tree::Label;
@@ -30,10 +30,45 @@ fn start_text(from: Sorts) -> &'static str
         "a row"
     } else if from.value || from.maybe_value {
         "a column"
-    } else if from.leaf {
-        "a value"
     } else {
-        "no node"
+        "a value"
+    }
+}
+
+/// Whether there may be nodes of some sort.
+pub fn has_nodes(from: Sorts) -> bool
+    ensures { result ≡ has_nodes from }
+{
+    from.document || from.root || from.row || from.value || from.maybe_value || from.leaf
+}
+
+// From where a path leads nowhere.
+fn nowhere_text(
+    alloc: Global,
+    sources: &[Label],
+    unsatisfiable: UnsatisfiablePath,
+) -> Result<Vec<u8>, AllocError>
+    ensures { IfOk result (λ text. text.items ≡ nowhere_text unsatisfiable.from (slice_get sources.now unsatisfiable.source)) }
+{
+    let mut text = Vec::from_slice(alloc, b" leads nowhere from ")?;
+    text.extend_from_slice(start_text(unsatisfiable.from).as_bytes())?;
+    text.extend_from_slice(b" of ")?;
+    push_source(&mut text, sources, unsatisfiable.source)?;
+    Ok(text)
+}
+
+// How a path fails: from where it leads nowhere, or that there is no node from which it could lead.
+fn fails_text(
+    alloc: Global,
+    sources: &[Label],
+    unsatisfiable: UnsatisfiablePath,
+) -> Result<Vec<u8>, AllocError>
+    ensures { IfOk result (λ text. text.items ≡ fails_text unsatisfiable.from (slice_get sources.now unsatisfiable.source)) }
+{
+    if has_nodes(unsatisfiable.from) {
+        nowhere_text(alloc, sources, unsatisfiable)
+    } else {
+        Vec::from_slice(alloc, b" begins at a variable that has no value")
     }
 }
 
@@ -52,10 +87,8 @@ pub fn head_line(
     line.extend_from_slice(b": the path ")?;
     let text = write_path(alloc, path)?;
     line.extend_from_slice(&text)?;
-    line.extend_from_slice(b" leads nowhere from ")?;
-    line.extend_from_slice(start_text(unsatisfiable.from).as_bytes())?;
-    line.extend_from_slice(b" of ")?;
-    push_source(&mut line, sources, unsatisfiable.source)?;
+    let failure = fails_text(alloc, sources, unsatisfiable)?;
+    line.extend_from_slice(&failure)?;
     line.push(b'\n')?;
     Ok(line)
 }

@@ -6,10 +6,10 @@ ghost use Rattle.plan_core.specs.PlanMade.{plan_value};
 ghost use Rattle.plan_core.specs.Valid.{IsValid};
 ghost use Rattle.unsatisfiable_paths.specs.Unsatisfiable as unsatisfiable;
 ghost use Rattle.path_words.specs.Leads.{lead_lines, lead_text};
-ghost use Rattle.path_words.specs.Told.{path_lines, path_said};
+ghost use Rattle.path_words.specs.Told.{leads_said, path_lines, path_said};
 
 use crate::leads::lead_text;
-use crate::path::head_line;
+use crate::path::{has_nodes, head_line};
 use browse_visit::{Shape, Sorts};
 use plan_core::{Op, Plan};
 use std::alloc::{AllocError, Global};
@@ -32,6 +32,23 @@ fn leads_of(
     lead_text(alloc, shape, from)
 }
 
+// Adds where paths lead from nodes of these sorts of a source by its number, where there may be some.
+fn push_leads(
+    alloc: Global,
+    lines: &mut Vec<u8>,
+    shapes: &[Shape],
+    source: u32,
+    from: Sorts,
+) -> Result<(), AllocError>
+    ensures { OnOk result (lines.new.items ≡ lines.old.items ++ leads_said (shape_at shapes.now source) from) }
+{
+    if has_nodes(from) {
+        let leads = leads_of(alloc, shapes, source, from)?;
+        lines.extend_from_slice(&leads)?;
+    }
+    Ok(())
+}
+
 // What is said of a path that leads nowhere.
 fn path_lines(
     alloc: Global,
@@ -48,8 +65,13 @@ fn path_lines(
         return Ok(Vec::new(alloc));
     };
     let mut lines = head_line(alloc, &plan.sources, unsatisfiable, path, name)?;
-    let leads = leads_of(alloc, shapes, unsatisfiable.source, unsatisfiable.from)?;
-    lines.extend_from_slice(&leads)?;
+    push_leads(
+        alloc,
+        &mut lines,
+        shapes,
+        unsatisfiable.source,
+        unsatisfiable.from,
+    )?;
     Ok(lines)
 }
 
