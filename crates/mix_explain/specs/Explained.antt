@@ -10,7 +10,7 @@ use Rattle.xmas_rule.specs.Rules.{RuleValue}
 use Rattle.plan_core.specs.PlanMade.{plan_value}
 use Rattle.plan_core.specs.declared.plan.Plan.{Plan}
 use Rattle.plan_rewrite.specs.Rewritten.{plan_for}
-use Rattle.refusal_words.specs.Catalog.{ExplainsCatalog}
+use Rattle.refusal_words.specs.Catalog.{ExplainsAt, IsFaultPlace}
 use Rattle.refusal_words.specs.View.{ExplainsView}
 use Rattle.view_report.specs.Report.{Reports}
 use Rattle.mix_top.specs.declared.refusal.FileFault.{FileFault}
@@ -37,7 +37,7 @@ IsSaid names files path TooLong words = words ≡ []
 IsSaid names files path (Document e) words = words ≡ []
 IsSaid names files path (Csv e) words = words ≡ []
 IsSaid names files path (Json e) words = words ≡ []
-IsSaid names files path (Catalog e) words = (text : List ℕ) × IsRead files path text × ExplainsCatalog text words
+IsSaid names files path (Catalog e) words = (text : List ℕ) × IsRead files path text × ExplainsAt text (IsFaultPlace text e) words
 IsSaid names files path (Script e) words = words ≡ []
 IsSaid names files path (View e) words = (text : List ℕ) × IsRead files path text × ExplainsView text names e words
 IsSaid names files path (PlanText e) words = words ≡ []

@@ -1,7 +1,46 @@
 -- What is said of a refused catalog.
-use Rattle.std.specs.Prelude.{◌≡◌, ℕ, List, ◌++◌}
+use Rattle.std.specs.Prelude.{◌≡◌, ◌⊎◌, ◌<◌, ◌+◌, ◌==◌, ℕ, List, ◌++◌, length, take, count_by}
+use Rattle.text_places.specs.Lines.{HasLineBegin}
 use Rattle.text_places.specs.Shown.{ShowsPlace}
+use Rattle.mix_catalog.specs.declared.fault.CatalogFault.{CatalogFault}
+use Rattle.mix_catalog.specs.declared.fault.CatalogFault.TheVariants.{Line, Chunk, Columns, ColumnTwice, NameTwice, TooMany, OutOfMemory}
 
--- words explain a fault of a catalog's text: a place is shown, and after it stands a hint
-abbrev pub ExplainsCatalog : List ℕ → List ℕ → Type 0
-ExplainsCatalog text words = (at : ℕ) × (shown : List ℕ) × ShowsPlace text at shown × (hint : List ℕ) × (words ≡ shown ++ hint)
+-- the number of the line that a fault of a catalog names, and of the first where it names none
+abbrev pub line_of : CatalogFault → ℕ
+line_of (Line n) = n
+line_of (Chunk n) = n
+line_of (Columns n) = n
+line_of (ColumnTwice n) = n
+line_of (NameTwice n) = n
+line_of (TooMany n) = n
+line_of OutOfMemory = 1
+
+-- the number of the line that a place of a text stands in: one more than lines end before the place
+abbrev pub line_at : List ℕ → ℕ → ℕ
+line_at text at = count_by (λ b. b == 10) (take at text) + 1
+
+-- a text has no line of a number: the number is 0, or the text ends in an earlier line
+abbrev pub LacksLine : List ℕ → ℕ → Type 0
+LacksLine text number = (number ≡ 0) ⊎ (line_at text (length text) < number)
+
+-- the line of a number begins at a place
+abbrev pub BeginsLine : List ℕ → ℕ → ℕ → Type 0
+BeginsLine text number at = (line_at text at ≡ number) × HasLineBegin text at at
+
+-- a place stands in the line that a fault names, and begins it where the line fits a form
+abbrev pub IsFaultPlace : List ℕ → CatalogFault → ℕ → Type 0
+IsFaultPlace text (Line n) at = line_at text at ≡ n
+IsFaultPlace text (Chunk n) at = BeginsLine text n at
+IsFaultPlace text (Columns n) at = BeginsLine text n at
+IsFaultPlace text (ColumnTwice n) at = BeginsLine text n at
+IsFaultPlace text (NameTwice n) at = BeginsLine text n at
+IsFaultPlace text (TooMany n) at = BeginsLine text n at
+IsFaultPlace text OutOfMemory at = BeginsLine text 1 at
+
+-- a place of a kind is shown of a text, and after it stands a hint
+abbrev pub ExplainsAt : List ℕ → (ℕ → Type 0) → List ℕ → Type 0
+ExplainsAt text IsPlace words = (at : ℕ) × IsPlace at × (shown : List ℕ) × ShowsPlace text at shown × (hint : List ℕ) × (words ≡ shown ++ hint)
+
+-- words explain a fault of a catalog's text: a place in the line that it names is shown, or some place where the text has no such line
+abbrev pub ExplainsCatalog : List ℕ → CatalogFault → List ℕ → Type 0
+ExplainsCatalog text fault words = ExplainsAt text (λ at. LacksLine text (line_of fault) ⊎ IsFaultPlace text fault at) words

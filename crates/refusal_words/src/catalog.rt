@@ -1,6 +1,7 @@
 // The refusal of a catalog in words.
-ghost use Rattle.std.specs.Prelude.{◌≡◌, ◌≤◌, IfOk, length};
-ghost use Rattle.refusal_words.specs.Catalog.{ExplainsCatalog};
+ghost use Rattle.std.specs.Prelude.{◌≡◌, ◌≤◌, ◌⊎◌, IfOk, length};
+ghost use Rattle.text_places.specs.Lines.{IsWithoutLf};
+ghost use Rattle.refusal_words.specs.Catalog.{BeginsLine, ExplainsCatalog, LacksLine, line_of};
 
 use crate::forms::{FORMS, FormWord, goes_on, goes_on_with, may_be_of};
 use crate::listing::push_item;
@@ -14,7 +15,9 @@ use text_places::place_text;
 const WORDS: usize = 32;
 
 // The number of the line that a fault names, from 1; 1 where it names none.
-fn line_number(fault: CatalogFault) -> usize {
+fn line_number(fault: CatalogFault) -> usize
+    ensures { result ≡ line_of fault }
+{
     match fault {
         CatalogFault::Line(n)
         | CatalogFault::Chunk(n)
@@ -26,9 +29,10 @@ fn line_number(fault: CatalogFault) -> usize {
     }
 }
 
-// Where the line of a number begins, or the end of the text.
+// Where the line of a number begins, or the end of a text that lacks the line.
 fn line_begin(text: &[u8], number: usize) -> usize
-    ensures { result ≤ length text.now }
+    ensures within { result ≤ length text.now }
+    ensures line { LacksLine text.now number ⊎ BeginsLine text.now number result }
 {
     let mut before = 1;
     for (at, byte) in text.iter().enumerate() {
@@ -44,7 +48,8 @@ fn line_begin(text: &[u8], number: usize) -> usize
 
 // The line that begins a text, without its LF and a CR before that.
 fn first_line(text: &[u8]) -> &[u8]
-    ensures { length result.now ≤ length text.now }
+    ensures within { length result.now ≤ length text.now }
+    ensures alone { IsWithoutLf text.now 0 (length result.now) }
 {
     let end = match text.iter().position(|b| *b == b'\n') {
         Some(end) => end,
@@ -145,7 +150,7 @@ fn mending(fault: CatalogFault) -> &'static str {
 /// A catalog's fault in words: its line and column, that line with a mark below, and what could stand there, or how it can be mended. Of a line that fits no
 /// form the mark is below the first word with which no line of a form goes on. Each line ends with LF. `Err`: memory.
 pub fn catalog_words(alloc: Global, text: &[u8], fault: CatalogFault) -> Result<Vec<u8>, AllocError>
-    ensures { IfOk result (λ words. ExplainsCatalog text.now words.items) }
+    ensures { IfOk result (λ words. ExplainsCatalog text.now fault words.items) }
 {
     let begin = line_begin(text, line_number(fault));
     let CatalogFault::Line(_) = fault else {
