@@ -4,6 +4,7 @@ pub mod Endings
 pub mod FollowedLeads
 pub mod Groups
 pub mod LeadsFollowed
+pub mod LevelsAhead
 pub mod Makes
 pub mod Nodes
 pub mod OnWay
@@ -13,3 +14,4 @@ pub mod SingleEvidence
 pub mod Staying
 pub mod StepsBelow
 pub mod ToldLists
+pub mod Trails

@@ -6,6 +6,7 @@ mod below;
 mod choosing;
 mod ends;
 mod evidence;
+mod following;
 mod law;
 mod levels;
 mod mark;
