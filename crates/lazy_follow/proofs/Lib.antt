@@ -2,6 +2,7 @@ pub mod Agreements
 pub mod Choices
 pub mod Endings
 pub mod FollowedLeads
+pub mod FromOuter
 pub mod Groups
 pub mod LeadsFollowed
 pub mod LevelsAhead

@@ -1,6 +1,6 @@
 -- What following levels comes to.
 use Rattle.std.specs.Prelude.{◌≡◌, ◌+◌, ◌∷◌, ℕ, IsTrue, List, Option, None, MatchOption}
-use Rattle.node_text.specs.Node.{LevelValue}
+use Rattle.node_text.specs.Node.{LevelValue, NodeValue}
 use Rattle.plan_forms.specs.Forms.{piece_at}
 use Rattle.lazy_plan.specs.Bench.{BenchState, ops_of, documents, told}
 use Rattle.lazy_seek.specs.Reach.{reach}
@@ -8,11 +8,12 @@ use Rattle.lazy_follow.specs.declared.ends.TreeAt.{TreeAt}
 use Rattle.lazy_follow.specs.declared.evidence.Evidence.{Evidence}
 use Rattle.lazy_follow.specs.declared.following.Ahead.{Ahead}
 use Rattle.lazy_follow.specs.declared.following.Trail.{Trail}
+use Rattle.lazy_follow.specs.declared.mark.Mark.{Mark}
 use Rattle.lazy_follow.specs.declared.members.Group.{Group}
 use Rattle.lazy_follow.specs.Ends.{stand_of}
-use Rattle.lazy_follow.specs.Following.{Follows, FollowsTree}
+use Rattle.lazy_follow.specs.Following.{Follows, FollowsTree, IsFollowed}
 use Rattle.lazy_follow.specs.Levels.{IsListIn}
-use Rattle.lazy_follow.specs.Marks.{levels_reach, AreMembers, IsShown}
+use Rattle.lazy_follow.specs.Marks.{levels_reach, AreMembers, IsShown, IsMarkOf}
 
 -- how far the levels and the place below reach that are ahead
 abbrev pub ahead_reach : Ahead → ℕ
@@ -40,3 +41,8 @@ FollowsPiece st places t a =
 -- a trail with one level more in front of it, which leads to a member or to none
 abbrev pub GoesBefore : Option Evidence → Option Trail → Option Trail → Type 0
 GoesBefore m t r = MatchOption t (r ≡ None) (λ x. MatchOption r ⊥ (λ y. (y.members.items ≡ m ∷ x.members.items) × (y.shown ≡ x.shown)))
+
+-- over told sources a text can't be followed, or it can; its mark is there
+abbrev pub GivesMark : BenchState → BenchState → NodeValue → Option Mark → Type 0
+GivesMark old new d r =
+    MatchOption r (IsTrue (told old) → IsFollowed (documents old) (ops_of old) d → ⊥) (λ m. IsMarkOf new d m × (IsTrue (told old) → IsFollowed (documents old) (ops_of old) d))
