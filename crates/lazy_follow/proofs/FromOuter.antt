@@ -1,6 +1,6 @@
 -- Levels followed from the outer element.
-use Rattle.std.proofs.Common.{◌≡◌, ◌∙◌, ◌<◌, ℕ, suc, List, [], ◌∷◌, Option, Some, None, refl, sym, ap, subst, arith, length}
-use Rattle.std.specs.Prelude.{IsTrue, MatchOption, Result, Ok, Err, IfOk, IfSome}
+use Rattle.std.proofs.Common.{◌≡◌, ◌∙◌, ◌<◌, ℕ, suc, List, [], ◌∷◌, Option, Some, None, refl, sym, ap, subst, arith}
+use Rattle.std.specs.Prelude.{Result, Ok, Err, IfOk, IfSome}
 use Rattle.std.specs.List.{last_or}
 use Rattle.mix_base.proofs.Choices.{some_is, none_some}
 use Rattle.mix_tree.specs.Nodes.{Documents}
@@ -13,15 +13,14 @@ use Rattle.plan_evidence.specs.Evidence.{evidence_vars}
 use Rattle.plan_evidence.specs.Named.{Listing, listing, outer_of}
 use Rattle.tree_buffer.specs.declared.spot.Spot.{Spot}
 use Rattle.lxp_core.specs.declared.fault.WalkFault.{WalkFault}
-use Rattle.lazy_plan.specs.Bench.{BenchState, ops_of, documents, told}
+use Rattle.lazy_plan.specs.Bench.{BenchState, ops_of, documents}
 use Rattle.lazy_seek.specs.Evidenced.{AreSpotsOf}
 use Rattle.lazy_seek.specs.Given.{given}
-use Rattle.lazy_follow.specs.declared.evidence.Evidence.{Evidence}
 use Rattle.lazy_follow.specs.declared.following.Trail.{Trail}
 use Rattle.lazy_follow.specs.declared.members.Group.{Group}
 use Rattle.lazy_follow.specs.Choosing.{IsListBy}
 use Rattle.lazy_follow.specs.Ends.{stand_of}
-use Rattle.lazy_follow.specs.Following.{list_in, Stand, Follows, FollowsFromOuter, IsFollowedBy}
+use Rattle.lazy_follow.specs.Following.{list_in, Follows, FollowsFromOuter, IsFollowedBy}
 use Rattle.lazy_follow.specs.Levels.{IsListIn}
 use Rattle.lazy_follow.specs.Scope.{InScope}
 use Rattle.lazy_follow.specs.Spotted.{IsSpotted}

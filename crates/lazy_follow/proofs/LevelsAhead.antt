@@ -1,6 +1,6 @@
 -- One level followed, and those behind it.
-use Rattle.std.proofs.Common.{◌≡◌, ◌∙◌, ◌+◌, ◌<◌, ◌≤◌, ℕ, List, [], ◌∷◌, Option, Some, None, refl, sym, ap, subst, arith, length}
-use Rattle.std.specs.Prelude.{IsTrue, MatchOption, Result, Ok, Err, IfOk}
+use Rattle.std.proofs.Common.{◌≡◌, ◌∙◌, ◌+◌, ◌≤◌, ℕ, List, [], ◌∷◌, Option, Some, None, refl, sym, ap, subst, arith, length}
+use Rattle.std.specs.Prelude.{MatchOption, Result, Ok, Err, IfOk}
 use Rattle.mix_base.proofs.Choices.{some_is, none_some}
 use Rattle.mix_tree.specs.Nodes.{Documents}
 use Rattle.node_text.specs.Node.{LevelValue}
@@ -8,29 +8,26 @@ use Rattle.plan_core.specs.declared.plan.Piece.{Piece}
 use Rattle.plan_core.specs.declared.plan.Plan.{Plan}
 use Rattle.plan_core.specs.ByNumber.{op_at}
 use Rattle.plan_core.specs.PlanMade.{plan_value}
-use Rattle.plan_core.specs.Plans.{Operator}
 use Rattle.plan_core.specs.Shapes.{shape_at}
 use Rattle.plan_core.specs.Valid.{IsValid}
 use Rattle.plan_core.proofs.Typed.{valid_is_typed}
 use Rattle.plan_evidence.specs.Named.{Listing, of_pieces, listing}
 use Rattle.plan_forms.specs.Forms.{pieces_of, piece_at, input_at, keys_of, piece_of}
 use Rattle.lxp_core.specs.declared.fault.WalkFault.{WalkFault}
-use Rattle.lazy_plan.specs.Bench.{BenchState, ops_of, documents, told, KeepsBench}
+use Rattle.lazy_plan.specs.Bench.{BenchState, ops_of, documents, KeepsBench}
 use Rattle.lazy_seek.specs.Evidenced.{reaches}
 use Rattle.lazy_seek.specs.Reach.{reach}
 use Rattle.lazy_follow.specs.declared.ends.TreeAt.{TreeAt}
 use Rattle.lazy_follow.specs.declared.evidence.Evidence.{Evidence}
 use Rattle.lazy_follow.specs.declared.following.Trail.{Trail}
-use Rattle.lazy_follow.specs.declared.levels.Led.{Led}
 use Rattle.lazy_follow.specs.declared.levels.Led.TheVariants.{List as list_led, Tree as tree_led, Member as member_led}
 use Rattle.lazy_follow.specs.declared.members.Group.{Group}
 use Rattle.lazy_follow.specs.Choosing.{IsListBy}
 use Rattle.lazy_follow.specs.Ends.{IsTreeAt, stand_of}
-use Rattle.lazy_follow.specs.Following.{a_tree, a_member, a_list_among, choice, list_in, Stand, IsMet, FollowsTree, Follows}
+use Rattle.lazy_follow.specs.Following.{a_tree, a_member, a_list_among, choice, list_in, Stand, FollowsTree, Follows}
 use Rattle.lazy_follow.specs.Levels.{IsListIn, IsLed}
 use Rattle.lazy_follow.specs.Marks.{levels_reach}
 use Rattle.lazy_follow.specs.Scope.{InScope}
-use Rattle.lazy_follow.specs.Spotted.{IsSpotted}
 use Rattle.lazy_follow.specs.Trails.{GivesTrail, GoesBefore}
 use Rattle.lazy_follow.proofs.Groups.{spotted_on}
 use Rattle.lazy_follow.proofs.Makes.{member_single}
@@ -132,6 +129,7 @@ piece_ahead st new places tree h n scope by (l ∷ ls) p (Ok t) some f = by_list
   where
     s : Stand
     s = stand_of places tree.here.now
+
     by_list : (o : Option Listing) → IsListBy (ops_of st) o (Some n)
         → GivesTrail st new (l ∷ ls) (MatchOption o ⊥ (λ inner. Follows (documents st) (ops_of st) s inner (l ∷ ls) p)) t
     by_list None b = none_some n (sym b)

@@ -1,9 +1,8 @@
 -- Levels followed one after another.
-use Rattle.std.proofs.Common.{◌≡◌, ◌∙◌, ◌<◌, ℕ, List, [], ◌∷◌, Option, Some, None, refl, sym, ap, subst, arith, length}
+use Rattle.std.proofs.Common.{◌≡◌, ◌∙◌, ◌<◌, ℕ, List, [], ◌∷◌, Option, Some, None, refl, sym, ap, subst, length}
 use Rattle.std.specs.Prelude.{Bool, IsTrue, true, false, cond, ◌==◌, MatchOption, slice_get}
-use Rattle.mix_base.proofs.Choices.{some_is, none_some}
+use Rattle.mix_base.proofs.Choices.{none_some}
 use Rattle.mix_tree.specs.Nodes.{Documents}
-use Rattle.mix_tree.specs.declared.var.Key.{Key}
 use Rattle.node_text.specs.Node.{LevelValue}
 use Rattle.plan_core.specs.declared.plan.Piece.{Piece}
 use Rattle.plan_core.specs.declared.plan.Piece.TheVariants.{Var as var_piece, LabelOf as label_piece, Text as text_piece}
@@ -13,22 +12,20 @@ use Rattle.plan_core.specs.PlanMade.{plan_value}
 use Rattle.plan_core.specs.Plans.{Operator}
 use Rattle.plan_core.specs.Shapes.{shape_at}
 use Rattle.plan_evidence.specs.Named.{Listing, of_pieces, of_group, listing, list_of, IsSingle}
-use Rattle.plan_forms.specs.Forms.{pieces_of, piece_at, input_at, keys_of, piece_of}
+use Rattle.plan_forms.specs.Forms.{pieces_of, piece_at, input_at}
 use Rattle.lazy_plan.specs.Bench.{BenchState, ops_of, documents, told, KeepsBench}
 use Rattle.lazy_follow.specs.declared.ends.TreeAt.{TreeAt}
 use Rattle.lazy_follow.specs.declared.evidence.Evidence.{Evidence}
-use Rattle.lazy_follow.specs.declared.following.Ahead.{Ahead}
 use Rattle.lazy_follow.specs.declared.following.Trail.{Trail}
 use Rattle.lazy_follow.specs.declared.members.Group.{Group}
-use Rattle.lazy_follow.specs.Choosing.{HasPiece, MakesPieces, MakesGroups, IsListBy}
+use Rattle.lazy_follow.specs.Choosing.{HasPiece, MakesPieces}
 use Rattle.lazy_follow.specs.Ends.{IsTreeAt, stand_of}
-use Rattle.lazy_follow.specs.Following.{Choice, nothing, a_tree, a_member, a_list_among, without_places, value_choice, piece_choice, choice, list_in, Stand, IsMet, FollowsTree, FollowsFrom, Follows}
+use Rattle.lazy_follow.specs.Following.{Choice, nothing, a_tree, a_member, a_list_among, without_places, value_choice, piece_choice, choice, Stand, FollowsFrom, Follows}
 use Rattle.lazy_follow.specs.Levels.{IsListIn, LeadsNowhere}
 use Rattle.lazy_follow.specs.Marks.{AreMembers, IsShown}
-use Rattle.lazy_follow.specs.Members.{IsEvidenceAt}
 use Rattle.lazy_follow.specs.Scope.{InScope}
 use Rattle.lazy_follow.specs.Spotted.{IsSpotted}
-use Rattle.lazy_follow.specs.Trails.{IsTrail, GivesTrail, GoesBefore, FollowsPiece}
+use Rattle.lazy_follow.specs.Trails.{GivesTrail, GoesBefore}
 use Rattle.lazy_follow.proofs.Groups.{spotted_on}
 
 -- WHAT WAS CHOSEN

@@ -1,4 +1,4 @@
-use Rattle.std.proofs.Common.{◌∙◌, ◌<◌, ℕ, suc, Option, sym, ap, subst, arith, length}
+use Rattle.std.proofs.Common.{◌∙◌, ℕ, suc, Option, sym, ap, subst}
 use Rattle.std.specs.Prelude.{option_and_then}
 use Rattle.plan_core.specs.PlanMade.{op_of, plan_value}
 use Rattle.plan_core.specs.Plans.{Operator}
