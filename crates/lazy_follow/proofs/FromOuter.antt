@@ -27,7 +27,8 @@ use Rattle.lazy_follow.specs.Spotted.{IsSpotted}
 use Rattle.lazy_follow.specs.Trails.{GivesTrail}
 
 -- what binds a variable has the operator in its scope that is in that of each before a later one which does
-pub scope_at : (ops : List Operator) (n v : ℕ) (k : Kind) → kinds ops n v ≡ Some k → (r : Option ℕ) → IfSome r (λ u. (i : ℕ) (j : Kind) → i < suc n → kinds ops i v ≡ Some j → InScope ops i u)
+pub scope_at : (ops : List Operator) (n v : ℕ) (k : Kind) → kinds ops n v ≡ Some k → (r : Option ℕ)
+    → IfSome r (λ u. (i : ℕ) (j : Kind) → i < suc n → kinds ops i v ≡ Some j → InScope ops i u)
     → IfSome r (InScope ops n)
 scope_at ops n v k e None h = tt
 scope_at ops n v k e (Some u) h = h n k (omega arith) e
@@ -38,7 +39,8 @@ by_is ops n list None b e = none_some n (sym b)
 by_is ops n list (Some l) b e = sym b.1 ∙ e
 
 -- an answer for one thing to be followed is an answer for what is the same
-gives_as : (old new : BenchState) (levels : List LevelValue) (F G : Type 0) (r : Result (Option Trail) WalkFault) → (F → G) → (G → F) → IfOk r (GivesTrail old new levels F) → IfOk r (GivesTrail old new levels G)
+gives_as : (old new : BenchState) (levels : List LevelValue) (F G : Type 0) (r : Result (Option Trail) WalkFault) → (F → G) → (G → F)
+    → IfOk r (GivesTrail old new levels F) → IfOk r (GivesTrail old new levels G)
 gives_as old new levels F G (Err e) to from h = tt
 gives_as old new levels F G (Ok None) to from h = λ tells g. h tells (from g)
 gives_as old new levels F G (Ok (Some t)) to from h = (h.0, λ tells. to (h.1 tells))
@@ -62,7 +64,8 @@ module _ (docs : Documents) (ops : List Operator) (input v : ℕ) (is : IsOuterO
   none_from_outer by (l ∷ ls) p some f = subst (λ (o : Option Listing). IsListBy ops o None) (outer_list (l ∷ ls) p f) by
 
   -- levels are followed from the outer element as from its list
-  from_list : (levels : List LevelValue) (p : List ℕ) (n : ℕ) → n ≡ input → (list : Listing) → list_in ops (var_piece v) ≡ Some list → Follows docs ops (record { op = n; places = [] }) list levels p
+  from_list : (levels : List LevelValue) (p : List ℕ) (n : ℕ) → n ≡ input → (list : Listing) → list_in ops (var_piece v) ≡ Some list
+      → Follows docs ops (record { op = n; places = [] }) list levels p
       → FollowsFromOuter docs ops levels p
   from_list levels p n e list is_list f = record {
     input = input;
@@ -94,7 +97,8 @@ outer_in st input from e here scope (Some list) by = record {
 }
 
 -- what is followed from the outer element is followed from its list
-pub outer_ahead : (st new : BenchState) (input v : ℕ) → IsOuterOf (ops_of st) input v → (levels : List LevelValue) (p : List ℕ) → (levels ≡ [] → ⊥) → (r : Result (Option Trail) WalkFault) (from : Group)
+pub outer_ahead : (st new : BenchState) (input v : ℕ) → IsOuterOf (ops_of st) input v → (levels : List LevelValue) (p : List ℕ) → (levels ≡ [] → ⊥)
+    → (r : Result (Option Trail) WalkFault) (from : Group)
     → ((h : IsListIn st [] from) → IfOk r (GivesTrail st new levels (Follows (documents st) (ops_of st) (stand_of [] from.here.now) h.list levels p)))
     → from.here.now.op ≡ input → IsSpotted st [] from.here.now → InScope (ops_of st) input from.op → IsListBy (ops_of st) (list_in (ops_of st) (var_piece v)) (Some from.op)
     → IfOk r (GivesTrail st new levels (IsFollowedBy (documents st) (ops_of st) levels p))
@@ -107,6 +111,7 @@ outer_ahead st new input v is (l ∷ ls) p some r from g e here scope by =
     (λ f. to_list (documents st) (ops_of st) input v is (l ∷ ls) p from.here.now.op e h.list is_list f) (g h)
 
 -- no spots are those of evidence without variables
-pub no_spots : (st : BenchState) (n : ℕ) → evidence_vars (ops_of st) n ≡ [] → (spots : List Spot) → spots ≡ [] → AreSpotsOf st (given (ops_of st) n []) (evidence_vars (ops_of st) n) spots
+pub no_spots : (st : BenchState) (n : ℕ) → evidence_vars (ops_of st) n ≡ [] → (spots : List Spot) → spots ≡ []
+    → AreSpotsOf st (given (ops_of st) n []) (evidence_vars (ops_of st) n) spots
 no_spots st n e spots s =
     subst (λ (vs : List ℕ). AreSpotsOf st (given (ops_of st) n []) vs spots) (sym e) (subst (λ (xs : List Spot). AreSpotsOf st (given (ops_of st) n []) [] xs) (sym s) tt)
