@@ -2,8 +2,10 @@ pub mod Agreements
 pub mod Choices
 pub mod Endings
 pub mod FollowedLeads
+pub mod FromOuter
 pub mod Groups
 pub mod LeadsFollowed
+pub mod LevelsAhead
 pub mod Makes
 pub mod Nodes
 pub mod OnWay
@@ -13,3 +15,4 @@ pub mod SingleEvidence
 pub mod Staying
 pub mod StepsBelow
 pub mod ToldLists
+pub mod Trails

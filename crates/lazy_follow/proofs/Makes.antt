@@ -1,5 +1,5 @@
 -- What kinds of values variables hold, by the operators that bind them anew.
-use Rattle.std.proofs.Common.{◌≡◌, ◌⊎◌, inl, inr, ℕ, zero, suc, ◌<◌, ◌≤◌, true, false, cond, List, [], ◌∷◌, Option, Some, None, refl, sym, ap, ◌∙◌, arith, length}
+use Rattle.std.proofs.Common.{◌≡◌, ◌⊎◌, inl, inr, ℕ, zero, suc, ◌<◌, ◌≤◌, true, false, cond, List, [], ◌∷◌, Option, Some, None, refl, sym, ap, subst, ◌∙◌, arith, length}
 use Rattle.std.specs.Prelude.{◌==◌, slice_index_or}
 use Rattle.std.proofs.lemmas.Bool.{eqb-true}
 use Rattle.std.proofs.lemmas.Bool.Decides.{nat_tests}
@@ -13,7 +13,7 @@ use Rattle.plan_core.specs.Plans.{Operator, source, get_descendants, join, over,
 use Rattle.plan_core.specs.Unary.{select, order_by, project, group_by, concatenate, create_element}
 use Rattle.plan_core.specs.Shapes.{a_list_of, an_element_of, filters, extends, first_by_keys, one_group, in_order, Shape, one_source, visits_below, pairs_up, passes_on, no_events, shape_of, shape_at}
 use Rattle.plan_core.specs.Typed.{IsTyped}
-use Rattle.plan_core.specs.Valid.{Kind, a_node, a_list, Kinds, no_kinds, with_kind, kept, made_kind, either_kind, shape_kinds, shape_inputs, shape_outs, outs_of, IsFit, IsSinglePiece, kinds, IsValid}
+use Rattle.plan_core.specs.Valid.{Kind, a_node, a_list, an_element, Kinds, no_kinds, with_kind, kept, made_kind, either_kind, shape_kinds, shape_inputs, shape_outs, outs_of, IsFit, IsSinglePiece, kinds, IsValid}
 use Rattle.plan_core.proofs.Fresh.{kept_bound, smaller, kinds-is}
 use Rattle.plan_core.proofs.Groups.{fit_group}
 use Rattle.plan_evidence.specs.Named.{of_pieces, of_group, maker, listing, element_list, list_of, IsSingle}
@@ -122,6 +122,21 @@ is_element (over i (concatenate pieces out)) v e = (let f : ⊥ = cc in absurd f
 is_element (over i (create_element label list out)) v e = (inl (sym (eqb-true out v e)), refl)
 is_element (tuple_destroy i made) v e = (let f : ⊥ = cc in absurd f)
 
+-- an operator that binds a variable anew to an element makes its elements
+makes_element_here : (o : Operator) (v : ℕ) → Among v (outs_of o) → made_of (shape_of o) ≡ Some an_element → makes_element_of o v ≡ true
+makes_element_here (source s out) v a e = (let z = some_is a_node an_element e in let f : ⊥ = cc in absurd f)
+makes_element_here (get_descendants i start path out) v a e = (let z = some_is a_node an_element e in let f : ⊥ = cc in absurd f)
+makes_element_here (join l r tests) v a e = absurd a
+makes_element_here (over i (select test)) v a e = absurd a
+makes_element_here (over i (order_by u desc)) v a e = absurd a
+makes_element_here (over i (project keys)) v a e = absurd a
+makes_element_here (over i (group_by [] piece out)) v a e = (let z = some_is a_list an_element e in let f : ⊥ = cc in absurd f)
+makes_element_here (over i (group_by (k ∷ keys) piece out)) v a e = (let z = some_is a_list an_element e in let f : ⊥ = cc in absurd f)
+makes_element_here (over i (concatenate pieces out)) v a e = (let z = some_is a_list an_element e in let f : ⊥ = cc in absurd f)
+makes_element_here (over i (create_element label list out)) v (inl q) e = grind (arith, nat_tests, q)
+makes_element_here (over i (create_element label list out)) v (inr q) e = absurd q
+makes_element_here (tuple_destroy i made) v a e = absurd a
+
 -- the piece of an operator that makes groups is single
 group_single : (o : Operator) (of : ℕ → Kinds) → IsFit o of → (n : ℕ) (keys : List Key) (piece : Piece) → listing (shape_of o) ≡ Some (of_group n keys piece)
     → IsSinglePiece (of (input_of o)) (slice_index_or (pieces_of o) 0 (text_piece []))
@@ -192,3 +207,14 @@ module _ (p : PlanValue) (valid : IsValid p) (typed : IsTyped p.ops) where
       let low = piece_input (op_at p.ops n) 0 n m.has_piece.there (typed.inputs n m.within) in
       one_piece (input_at p.ops n) (omega (arith, low, w)) (piece_of p.ops n)
       (group_single (op_at p.ops n) (kinds p.ops) (typed.fit n m.within) (input_at p.ops n) (keys_of (op_at p.ops n)) (piece_of p.ops n) m.listed)
+
+  -- where no operator below one makes the elements of a variable, of which it binds one, it makes them itself
+  pub element_at_top : (n v : ℕ) → n < length p.ops → kinds p.ops n v ≡ Some an_element → ((i : ℕ) → i < n → makes_element_of (op_at p.ops i) v ≡ false) → makes_element_of (op_at p.ops n) v ≡ true
+  element_at_top n v b e none =
+      let r = made_as (suc n) n v an_element (omega arith) b e in
+      let low = r.low in
+      let t = makes_element_here (op_at p.ops r.number) v r.among r.kind in
+      (elim (r.number == n) as (λ w. (r.number == n) ≡ w → makes_element_of (op_at p.ops n) v ≡ true) [
+        | true ↦ λ q. subst (λ (i : ℕ). makes_element_of (op_at p.ops i) v ≡ true) (eqb-true r.number n q) t
+        | false ↦ λ q. (let l : r.number < n = grind (arith, nat_tests, q, low) in let x : true ≡ false = sym t ∙ none r.number l in let f : ⊥ = cc in absurd f)
+      ]) refl

@@ -7,4 +7,5 @@ pub mod Marks
 pub mod Members
 pub mod Scope
 pub mod Spotted
+pub mod Trails
 pub mod Way

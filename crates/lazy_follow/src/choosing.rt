@@ -141,7 +141,7 @@ pub(crate) fn choose(plan: &Plan, list: u32, level: &Level) -> Chosen
 }
 
 /// The operator below a number that makes a list of a variable; `None` where none does.
-fn list_maker(plan: &Plan, below: u32, v: Var) -> Option<u32>
+pub(crate) fn list_maker(plan: &Plan, below: u32, v: Var) -> Option<u32>
     requires valid { IsValid (plan_value plan.now) }
     requires op { below < length (plan_value plan.now).ops }
     requires bound { (i : ℕ) × (k : Kind) × (i < below) × (kinds (plan_value plan.now).ops i v ≡ Some k) }

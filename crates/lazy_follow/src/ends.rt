@@ -31,7 +31,7 @@ pub(crate) struct TreeAt<'a> {
 }
 
 /// Whether an operator makes the elements of a variable.
-fn makes_element(op: &Op, v: Var) -> bool
+pub(crate) fn makes_element(op: &Op, v: Var) -> bool
     ensures { result ≡ makes_element_of (op_of op.now) v }
 {
     match op {

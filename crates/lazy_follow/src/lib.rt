@@ -6,10 +6,12 @@ mod below;
 mod choosing;
 mod ends;
 mod evidence;
+mod following;
 mod law;
 mod levels;
 mod mark;
 mod members;
+mod outer;
 mod way;
 
 pub use agreeing::agrees;
@@ -18,3 +20,4 @@ pub use law::{followed_are_named, marks_stay};
 pub use levels::{Led, follow_level};
 pub use mark::{Mark, Shown};
 pub use members::{Group, member};
+pub use outer::followed;
