@@ -92,9 +92,9 @@ fn follow_outer<S: Sources>(
     follow_list(alloc, bench, s, &Group { op, here: &here }, ahead)
 }
 
-/// The mark of an identifier's text, as what it says, followed over the sources from the outer element to its node; `None` where it can't be followed, so
-/// that it names no node. It asks at most as many fills as its places reach. `Failed`: this source failed. Every earlier cursor and spot stays, whatever is
-/// answered, and no cursor is made.
+/// The mark of an identifier's text, as what it says, followed over the sources from the outer element to its node. Over sources that tell their documents
+/// `None` comes exactly where it can't be followed. It asks at most as many fills as its places reach. `Failed`: this source failed. Every earlier cursor and
+/// spot stays, whatever is answered.
 pub fn followed<S: Sources>(
     alloc: Global,
     bench: &mut Bench,
