@@ -20,20 +20,20 @@ use Rattle.lazy_binding.specs.declared.position.Position.{Position}
 use Rattle.lazy_binding.specs.World.{World, place_in}
 use Rattle.lazy_plan.specs.Bench.{BenchState, ops_of, documents, IsCursor, IsSpotAt, binding_at, KeepsBench}
 use Rattle.lazy_value.specs.Above.{HasTop, IsItemAt, IsInsideAt, IsLedTo}
-use Rattle.lazy_value.specs.Ids.{head_trees, IsRest, IsSite}
-use Rattle.lazy_value.specs.Levels.{IsOpen, of_root, of_member}
-use Rattle.lazy_value.specs.Origins.{IsTreeOf, IsTreeOfPiece}
-use Rattle.lazy_value.specs.Sizes.{extent}
-use Rattle.lazy_value.specs.Standing.{remains, IsHolder, hand_op, hand_at, IsStanding}
-use Rattle.lazy_value.specs.declared.ids.Head.{Head}
-use Rattle.lazy_value.specs.declared.ids.Head.TheVariants.{Whole, Built, Leaf, Text}
-use Rattle.lazy_value.specs.declared.ids.Rest.{Rest}
-use Rattle.lazy_value.specs.declared.ids.Site.{Site}
-use Rattle.lazy_value.specs.declared.ids.Site.TheVariants.{Root, Inside, Item}
-use Rattle.lazy_value.proofs.Along.{below-kept}
-use Rattle.lazy_value.proofs.Holders.{hand_cursor, open_holder}
-use Rattle.lazy_value.proofs.Keep.{events_kept, Stands-kept, element-kept, head_trees-kept, sizes_kept, IsRest-kept}
-use Rattle.lazy_value.proofs.StandingKept.{remains-kept, IsHolder-kept, AreBelow-kept}
+use Rattle.lazy_site.specs.Ids.{head_trees, IsRest, IsSite}
+use Rattle.lazy_site.specs.Levels.{IsOpen, of_root, of_member}
+use Rattle.lazy_site.specs.Origins.{IsTreeOf, IsTreeOfPiece}
+use Rattle.lazy_site.specs.Sizes.{extent}
+use Rattle.lazy_site.specs.Standing.{remains, IsHolder, hand_op, hand_at, IsStanding}
+use Rattle.lazy_site.specs.declared.sites.Head.{Head}
+use Rattle.lazy_site.specs.declared.sites.Head.TheVariants.{Whole, Built, Leaf, Text}
+use Rattle.lazy_site.specs.declared.sites.Rest.{Rest}
+use Rattle.lazy_site.specs.declared.sites.Site.{Site}
+use Rattle.lazy_site.specs.declared.sites.Site.TheVariants.{Root, Inside, Item}
+use Rattle.lazy_site.proofs.Along.{below-kept}
+use Rattle.lazy_site.proofs.Holders.{hand_cursor, open_holder}
+use Rattle.lazy_site.proofs.Keep.{events_kept, Stands-kept, element-kept, head_trees-kept, sizes_kept, IsRest-kept}
+use Rattle.lazy_site.proofs.StandingKept.{remains-kept, IsHolder-kept, AreBelow-kept}
 
 -- a walk stands at a tree of the same list with the same left of it, over the same documents and bindings
 same_stands : {docs docs' : Documents} {ops : List Operator} {here here' there there' : TolledRow} {list : Listing} {r r' : Remains} {piece : Piece} → docs' ≡ docs → here' ≡ here → r' ≡ r → there' ≡ there

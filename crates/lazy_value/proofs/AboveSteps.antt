@@ -29,26 +29,26 @@ use Rattle.lazy_binding.specs.declared.position.Position.{Position}
 use Rattle.lazy_binding.specs.World.{place_in}
 use Rattle.lazy_plan.specs.Bench.{BenchState, ops_of, documents, events_of, told, IsSpotAt, binding_at, KeepsBench}
 use Rattle.lazy_value.specs.Above.{rests_above, rests_below, rests_with, top_above, top_below, top_with, HasTop, IsItemAt, IsInsideAt, IsLedTo}
-use Rattle.lazy_value.specs.Ids.{here, head_trees, element_trees, rest_trees, IsRest, IsSite}
-use Rattle.lazy_value.specs.Levels.{HasList, IsOpen, of_root, of_member}
-use Rattle.lazy_value.specs.Origins.{IsOriginOf, IsTreeOfPiece}
-use Rattle.lazy_value.specs.Standing.{remains, IsHolder, hand_op, hand_at, SiteStandsIn, StandsInSource, ChildStandsIn, SiteChildIn, SiteNextIn, IsInOuter}
+use Rattle.lazy_site.specs.Ids.{here, head_trees, element_trees, rest_trees, IsRest, IsSite}
+use Rattle.lazy_site.specs.Levels.{HasList, IsOpen, of_root, of_member}
+use Rattle.lazy_site.specs.Origins.{IsOriginOf, IsTreeOfPiece}
+use Rattle.lazy_site.specs.Standing.{remains, IsHolder, hand_op, hand_at, SiteStandsIn, StandsInSource, ChildStandsIn, SiteChildIn, SiteNextIn, IsInOuter}
 use Rattle.lazy_value.specs.Places.{IsNode, IsAt}
-use Rattle.lazy_value.specs.Steps.{StandsFor}
-use Rattle.lazy_value.specs.declared.ids.Head.{Head}
-use Rattle.lazy_value.specs.declared.ids.Head.TheVariants.{Whole, Built, Leaf, Text}
+use Rattle.lazy_site.specs.Steps.{StandsFor}
+use Rattle.lazy_site.specs.declared.sites.Head.{Head}
+use Rattle.lazy_site.specs.declared.sites.Head.TheVariants.{Whole, Built, Leaf, Text}
 use Rattle.lazy_value.specs.declared.ids.NodeId.{NodeId}
-use Rattle.lazy_value.specs.declared.ids.Origin.TheVariants.{Element as element_origin}
-use Rattle.lazy_value.specs.declared.ids.Rest.{Rest}
-use Rattle.lazy_value.specs.declared.ids.Site.{Site}
-use Rattle.lazy_value.specs.declared.ids.Site.TheVariants.{Root, Inside, Item}
+use Rattle.lazy_site.specs.declared.sites.Origin.TheVariants.{Element as element_origin}
+use Rattle.lazy_site.specs.declared.sites.Rest.{Rest}
+use Rattle.lazy_site.specs.declared.sites.Site.{Site}
+use Rattle.lazy_site.specs.declared.sites.Site.TheVariants.{Root, Inside, Item}
 use Rattle.lazy_value.proofs.AboveKept.{open-kept, item-kept, inside-kept, place-kept, rests-kept}
-use Rattle.lazy_value.proofs.DownIn.{element_pieces}
-use Rattle.lazy_value.proofs.Holders.{left_there, open_holder}
-use Rattle.lazy_value.proofs.Indexes.{below_paid, after_paid, count_from, rest_left}
-use Rattle.lazy_value.proofs.Keep.{ops_kept, head_trees-kept, IsRest-kept}
-use Rattle.lazy_value.proofs.Listings.{holder_sound, makes_out}
-use Rattle.lazy_value.proofs.Opening.{hand_holder}
+use Rattle.lazy_site.proofs.DownIn.{element_pieces}
+use Rattle.lazy_site.proofs.Holders.{left_there, open_holder}
+use Rattle.lazy_site.proofs.Indexes.{below_paid, after_paid, count_from, rest_left}
+use Rattle.lazy_site.proofs.Keep.{ops_kept, head_trees-kept, IsRest-kept}
+use Rattle.lazy_site.proofs.Listings.{holder_sound, makes_out}
+use Rattle.lazy_site.proofs.Opening.{hand_holder}
 
 -- WHATEVER IS TOLD
 

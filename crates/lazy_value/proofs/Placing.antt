@@ -13,15 +13,15 @@ use Rattle.plan_core.specs.TolledRows.{TolledValue, of_source, element, trees}
 use Rattle.plan_core.specs.Events.{RowEvents, events, visited, element_alone, tolled_destroyed, tolled_document}
 use Rattle.lazy_plan.specs.Bench.{BenchState, ops_of, documents, told, KeepsBench, AsksAtMost}
 use Rattle.lazy_value.specs.Above.{rests_above, top_above, IsLedTo}
-use Rattle.lazy_value.specs.Ids.{here}
-use Rattle.lazy_value.specs.Steps.{StandsFor, Reaches}
+use Rattle.lazy_site.specs.Ids.{here}
+use Rattle.lazy_site.specs.Steps.{StandsFor, Reaches}
 use Rattle.lazy_value.specs.Places.{plan_document, down_toll, right_toll, HasPlace, HasNoPlace, IsLabelAt, IsNode, IsAt, IsThere}
 use Rattle.lazy_value.specs.Mediators.{NodesStay}
 use Rattle.lazy_value.specs.declared.ids.NodeId.{NodeId}
-use Rattle.lazy_value.specs.declared.ids.Site.TheVariants.{Root}
+use Rattle.lazy_site.specs.declared.sites.Site.TheVariants.{Root}
 use Rattle.lazy_value.proofs.AboveKept.{led-kept, rests-kept, HasTop-kept}
-use Rattle.lazy_value.proofs.Indexes.{below_paid, after_paid}
-use Rattle.lazy_value.proofs.Keep.{keeps_sites}
+use Rattle.lazy_site.proofs.Indexes.{below_paid, after_paid}
+use Rattle.lazy_site.proofs.Keep.{keeps_sites}
 
 -- LISTS OF TREES BY PLACES
 

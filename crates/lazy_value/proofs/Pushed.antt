@@ -11,13 +11,13 @@ use Rattle.lazy_binding.specs.World.{place_in}
 use Rattle.lazy_binding.specs.declared.position.Position.{Position}
 use Rattle.lazy_plan.specs.Bench.{BenchState, IsSpotAt}
 use Rattle.lazy_value.specs.Above.{top_above, HasTop, inside_with, place_from, node_inside}
-use Rattle.lazy_value.specs.Ids.{IsSite}
+use Rattle.lazy_site.specs.Ids.{IsSite}
 use Rattle.lazy_value.specs.Places.{IsNode}
-use Rattle.lazy_value.specs.Standing.{remains}
+use Rattle.lazy_site.specs.Standing.{remains}
 use Rattle.lazy_value.specs.declared.ids.NodeId.{NodeId}
-use Rattle.lazy_value.specs.declared.ids.Rest.{Rest, Pieces'}
-use Rattle.lazy_value.specs.declared.ids.Site.TheVariants.{Inside}
-use Rattle.lazy_value.specs.declared.ways.Ways.{Ways}
+use Rattle.lazy_site.specs.declared.sites.Rest.{Rest, Pieces'}
+use Rattle.lazy_site.specs.declared.sites.Site.TheVariants.{Inside}
+use Rattle.lazy_site.specs.declared.ways.Ways.{Ways}
 
 -- a level to a piece without places
 abbrev pub plain_level : ℕ → LevelValue

@@ -30,20 +30,20 @@ use Rattle.lazy_binding.specs.declared.position.Position.{Position}
 use Rattle.lazy_binding.specs.World.{place_in}
 use Rattle.lazy_plan.specs.Bench.{BenchState, ops_of, documents, told, node_at, binding_at}
 use Rattle.lazy_value.specs.Above.{rests, rests_above, top_above, IsItemAt, IsInsideAt, IsLedTo, levels_with, inside_with, place_from, node_levels, node_inside}
-use Rattle.lazy_value.specs.Ids.{IsRest}
-use Rattle.lazy_value.specs.Levels.{HasList, IsOpen, of_root, of_member, levels_at, reached_at, tuple_at, is_below_top, kept_places, said_levels}
-use Rattle.lazy_value.specs.Origins.{IsTreeOfPiece}
+use Rattle.lazy_site.specs.Ids.{IsRest}
+use Rattle.lazy_site.specs.Levels.{HasList, IsOpen, of_root, of_member, levels_at, reached_at, tuple_at, is_below_top, kept_places, said_levels}
+use Rattle.lazy_site.specs.Origins.{IsTreeOfPiece}
 use Rattle.lazy_value.specs.Places.{plan_document, IsAt}
-use Rattle.lazy_value.specs.Standing.{remains, IsHolder, hand_op, hand_at, IsStanding}
+use Rattle.lazy_site.specs.Standing.{remains, IsHolder, hand_op, hand_at, IsStanding}
 use Rattle.lazy_value.specs.declared.ids.Above.{Above, Outer, Inner'}
-use Rattle.lazy_value.specs.declared.ids.Head.{Head}
-use Rattle.lazy_value.specs.declared.ids.Head.TheVariants.{Whole, Built, Leaf, Text}
+use Rattle.lazy_site.specs.declared.sites.Head.{Head}
+use Rattle.lazy_site.specs.declared.sites.Head.TheVariants.{Whole, Built, Leaf, Text}
 use Rattle.lazy_value.specs.declared.ids.NodeId.{NodeId}
-use Rattle.lazy_value.specs.declared.ids.Rest.{Rest, End, Pieces', Members', Group'}
-use Rattle.lazy_value.specs.declared.ids.Site.{Site}
-use Rattle.lazy_value.specs.declared.ids.Site.TheVariants.{Root, Inside, Item}
-use Rattle.lazy_value.proofs.Holders.{open_holder}
-use Rattle.lazy_value.proofs.Opening.{holder_evidence, hand_holder, opens_to}
+use Rattle.lazy_site.specs.declared.sites.Rest.{Rest, End, Pieces', Members', Group'}
+use Rattle.lazy_site.specs.declared.sites.Site.{Site}
+use Rattle.lazy_site.specs.declared.sites.Site.TheVariants.{Root, Inside, Item}
+use Rattle.lazy_site.proofs.Holders.{open_holder}
+use Rattle.lazy_site.proofs.Opening.{holder_evidence, hand_holder, opens_to}
 use Rattle.lazy_value.proofs.Placing.{IsTolled, has_is, plain_at, plain_below, plain_some}
 
 -- ENDS

@@ -11,16 +11,16 @@ use Rattle.plan_evidence.specs.Remains.{IsIndex}
 use Rattle.lazy_binding.specs.World.{place_in}
 use Rattle.lazy_binding.specs.declared.position.Position.{Position}
 use Rattle.lazy_plan.specs.Bench.{BenchState, ops_of, documents, binding_at, IsSpotAt}
-use Rattle.lazy_value.specs.Ids.{head_trees, IsRest}
-use Rattle.lazy_value.specs.Levels.{said_levels, IsOpen}
-use Rattle.lazy_value.specs.Standing.{remains, AreBelow, IsStanding}
+use Rattle.lazy_site.specs.Ids.{head_trees, IsRest}
+use Rattle.lazy_site.specs.Levels.{said_levels, IsOpen}
+use Rattle.lazy_site.specs.Standing.{remains, AreBelow, IsStanding}
 use Rattle.lazy_value.specs.declared.ids.Above.{Above, Outer, Inner'}
-use Rattle.lazy_value.specs.declared.ids.Head.{Head}
-use Rattle.lazy_value.specs.declared.ids.Head.TheVariants.{Whole, Built, Leaf, Text}
+use Rattle.lazy_site.specs.declared.sites.Head.{Head}
+use Rattle.lazy_site.specs.declared.sites.Head.TheVariants.{Whole, Built, Leaf, Text}
 use Rattle.lazy_value.specs.declared.ids.NodeId.{NodeId}
-use Rattle.lazy_value.specs.declared.ids.Rest.{Rest}
-use Rattle.lazy_value.specs.declared.ids.Site.{Site}
-use Rattle.lazy_value.specs.declared.ids.Site.TheVariants.{Root, Inside, Item}
+use Rattle.lazy_site.specs.declared.sites.Rest.{Rest}
+use Rattle.lazy_site.specs.declared.sites.Site.{Site}
+use Rattle.lazy_site.specs.declared.sites.Site.TheVariants.{Root, Inside, Item}
 
 -- WHAT IS KEPT
 

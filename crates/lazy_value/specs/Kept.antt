@@ -9,7 +9,7 @@ use Rattle.plan_core.specs.Valid.{IsValid}
 use Rattle.lazy_plan.specs.Bench.{BenchState, KeepsBench, told}
 use Rattle.lazy_value.specs.declared.ids.NodeId.{NodeId}
 use Rattle.lazy_value.specs.declared.mediator.Mediator.{Mediator}
-use Rattle.lazy_value.specs.Ids.{here}
+use Rattle.lazy_site.specs.Ids.{here}
 use Rattle.lazy_value.specs.Mediators.{state_of, IsMediatorOf}
 use Rattle.lazy_value.specs.Places.{IsNode, IsAt, plan_document}
 

@@ -1,14 +1,4 @@
 pub mod Above
-pub mod Calls
-pub mod Heights
-pub mod Ids
 pub mod Kept
-pub mod Labels
-pub mod Levels
 pub mod Mediators
-pub mod Origins
 pub mod Places
-pub mod Sizes
-pub mod Steps
-pub mod Ways
-pub mod Standing

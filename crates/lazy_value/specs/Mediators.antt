@@ -10,8 +10,8 @@ use Rattle.plan_core.specs.Valid.{IsValid}
 use Rattle.lazy_plan.specs.Bench.{BenchState, IsBenchOf, KeepsBench, told}
 use Rattle.lazy_plan.specs.Bench as bench
 use Rattle.lxp_core.specs.declared.fault.WalkFault.{WalkFault}
-use Rattle.lazy_value.specs.Ids as ids
-use Rattle.lazy_value.specs.Heights as heights
+use Rattle.lazy_site.specs.Ids as ids
+use Rattle.lazy_site.specs.Heights as heights
 use Rattle.lazy_value.specs.Places.{IsNode, IsAt, IsLabelAt, GivesPlace}
 use Rattle.lazy_value.specs.declared.ids.NodeId.{NodeId}
 use Rattle.lazy_value.specs.declared.mediator.Mediator.{Mediator}

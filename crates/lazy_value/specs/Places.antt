@@ -9,7 +9,7 @@ use Rattle.plan_core.specs.Tolled.{toll, trees_below, trees_after, paid, tolled_
 use Rattle.plan_core.specs.Events.{visited, tolled_document}
 use Rattle.lazy_plan.specs.Bench.{BenchState, ops_of, documents, told}
 use Rattle.lazy_value.specs.Above.{rests_above, top_above, HasTop, IsLedTo}
-use Rattle.lazy_value.specs.Ids as ids
+use Rattle.lazy_site.specs.Ids as ids
 use Rattle.lazy_value.specs.declared.ids.NodeId.{NodeId}
 
 -- the document that the plan makes of the documents of the sources

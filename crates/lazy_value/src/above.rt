@@ -2,7 +2,8 @@
 ghost use Rattle.std.specs.Prelude.{◌≡◌, ◌∷◌, IfOk};
 ghost use Rattle.lazy_value.specs.Above.{rests, rests_above, rests_below, top_above, top_below, top_in, top_of};
 
-use crate::ids::{Above, Head, NodeId, Rest, Site, share};
+use crate::ids::{Above, NodeId};
+use lazy_site::{Head, Rest, Site, share};
 use std::alloc::{AllocError, Global};
 use std::rc::Rc;
 use tree_buffer::Spot;

@@ -9,7 +9,7 @@ use Rattle.lxp_core.specs.Open.{nil, closed, weight_of, AllHoles, IsProgress, be
 use Rattle.plan_core.specs.Tolled.{trees_below, trees_after, plain}
 use Rattle.lazy_plan.specs.Bench.{BenchState, told}
 use Rattle.lazy_value.specs.declared.mediator.Mediator.{Mediator}
-use Rattle.lazy_value.specs.Ids.{here}
+use Rattle.lazy_site.specs.Ids.{here}
 use Rattle.lazy_value.specs.Mediators.{state_of}
 use Rattle.lazy_value.specs.Places.{plan_document}
 use Rattle.view_stack.specs.declared.layers.Served.{Served}

@@ -8,7 +8,7 @@ use Rattle.plan_core.specs.Tolled.{trees_below, trees_after, plain}
 use Rattle.lazy_plan.specs.Bench.{BenchState, KeepsBench, told}
 use Rattle.lazy_value.specs.declared.mediator.Mediator.{Mediator}
 use Rattle.lazy_value.specs.declared.ids.NodeId.{NodeId}
-use Rattle.lazy_value.specs.Ids.{here}
+use Rattle.lazy_site.specs.Ids.{here}
 use Rattle.lazy_value.specs.Mediators.{state_of}
 use Rattle.lazy_value.specs.Places.{IsNode, IsAt, IsLabelAt, GivesPlace, HasNoPlace, IsThere, plan_document}
 use Rattle.lazy_value.specs.Places as places

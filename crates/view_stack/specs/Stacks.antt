@@ -12,7 +12,7 @@ use Rattle.lazy_binding.specs.Cursors.{source_number}
 use Rattle.lazy_plan.specs.Bench.{BenchState, ops_of}
 use Rattle.lazy_plan.specs.Bench as bench
 use Rattle.lazy_value.specs.declared.mediator.Mediator.{Mediator}
-use Rattle.lazy_value.specs.Ids.{here}
+use Rattle.lazy_site.specs.Ids.{here}
 use Rattle.lazy_value.specs.Mediators.{state_of, plan_of}
 use Rattle.lazy_value.specs.Places.{plan_document}
 use Rattle.view_stack.specs.declared.layers.Layers.{Layers}

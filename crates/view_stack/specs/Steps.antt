@@ -17,7 +17,7 @@ use Rattle.lazy_binding.specs.World.{reads}
 use Rattle.lazy_plan.specs.Bench.{BenchState, KeepsBench, told}
 use Rattle.lazy_value.specs.declared.mediator.Mediator.{Mediator}
 use Rattle.lazy_value.specs.declared.ids.NodeId.{NodeId}
-use Rattle.lazy_value.specs.Ids.{here}
+use Rattle.lazy_site.specs.Ids.{here}
 use Rattle.lazy_value.specs.Kept.{KeepsMediators, TreesStay}
 use Rattle.lazy_value.specs.Mediators.{state_of, plan_of, IdentifiersStay, IsMediatorOf}
 use Rattle.lazy_value.specs.Places.{IsAt, down_toll, right_toll}

@@ -1,4 +1,4 @@
-use Rattle.lazy_value.proofs.Keep.{keeps_sites}
+use Rattle.lazy_site.proofs.Keep.{keeps_sites}
 use Rattle.lazy_value.proofs.law.trees_stay.Goals as goal
 
 pub returns : goal.returns

@@ -1,4 +1,4 @@
-use Rattle.lazy_value.proofs.Having.{valid_document}
+use Rattle.lazy_site.proofs.Having.{valid_document}
 use Rattle.lazy_value.proofs.law.valid_plans_have_documents.Goals as goal
 
 pub returns : goal.returns

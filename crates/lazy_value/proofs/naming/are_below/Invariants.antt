@@ -1,6 +1,6 @@
 use Rattle.std.proofs.Common.{◌≡◌, drop}
 use Rattle.std.specs.List.{list_all}
-use Rattle.lazy_value.specs.Levels.{is_below_top}
+use Rattle.lazy_site.specs.Levels.{is_below_top}
 use Rattle.lazy_value.proofs.naming.are_below.Given as goal
 
 abbrev pub invariant-loop-place : goal.invariant-loop-place

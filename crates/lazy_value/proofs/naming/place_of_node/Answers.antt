@@ -1,6 +1,6 @@
 use Rattle.std.proofs.Common.{◌∙◌, sym}
 use Rattle.lazy_plan.specs.Bench.{state_of}
-use Rattle.lazy_value.proofs.Heads.{if_ok}
+use Rattle.lazy_site.proofs.Heads.{if_ok}
 use Rattle.lazy_value.proofs.Pushed.{inside_is, inside_spots}
 use Rattle.lazy_value.proofs.naming.place_of_node.Goals as goal
 

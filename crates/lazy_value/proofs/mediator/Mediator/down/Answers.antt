@@ -4,7 +4,7 @@ use Rattle.lazy_plan.specs.Bench as bench
 use Rattle.lazy_value.specs.Mediators.{state_of, plan_of}
 use Rattle.lazy_value.specs.declared.ids.NodeId.{NodeId}
 use Rattle.lazy_value.proofs.AboveSteps.{child_above, child_node}
-use Rattle.lazy_value.proofs.Heights.{mediator_walked}
+use Rattle.lazy_value.proofs.Walks.{mediator_walked}
 use Rattle.lazy_value.proofs.Placing.{down_asks, down_none, down_some}
 use Rattle.lazy_value.proofs.mediator.Mediator.down.Goals as goal
 

@@ -5,7 +5,7 @@ use Rattle.plan_evidence.specs.Named.{Names}
 use Rattle.lazy_plan.specs.Bench.{documents, ops_of}
 use Rattle.lazy_value.specs.Above.{node_levels}
 use Rattle.lazy_value.specs.Mediators.{state_of, plan_of}
-use Rattle.lazy_value.proofs.Having.{valid_document}
+use Rattle.lazy_site.proofs.Having.{valid_document}
 use Rattle.lazy_value.proofs.Saying.{node_formed, node_named}
 use Rattle.lazy_value.proofs.mediator.Mediator.node_data.Goals as goal
 

@@ -1,0 +1,10 @@
+pub mod Calls
+pub mod Heights
+pub mod Ids
+pub mod Labels
+pub mod Levels
+pub mod Origins
+pub mod Sizes
+pub mod Standing
+pub mod Steps
+pub mod Ways
