@@ -1,44 +1,16 @@
 // The node at a place below a source's node, by steps down and to the right.
-ghost use Rattle.std.specs.Prelude.{◌≡◌, ◌+◌, ◌++◌, ◌∷◌, [], IfOk};
-ghost use Rattle.lazy_binding.specs.World.{place_in};
+ghost use Rattle.std.specs.Prelude.{IfOk};
 ghost use Rattle.lazy_steps.specs.Steps.{HasCause};
 ghost use Rattle.lazy_plan.specs.Bench.{state_of, IsBenchOf, ops_of, IsSpotAt};
 ghost use Rattle.lazy_seek.specs.Reach.{reach};
-ghost use Rattle.lazy_seek.specs.Seeks.{Sought, GivesPlace};
+ghost use Rattle.lazy_seek.specs.Seeks.{Sought};
 ghost use Rattle.lazy_follow.specs.Below.{GivesBelow};
 
 use lazy_plan::{Bench, WalkFault};
-use lazy_seek::NodeAt;
+use lazy_seek::{NodeAt, child_at};
 use lxp_core::Sources;
 use std::alloc::Global;
 use tree_buffer::Spot;
-
-/// The child of a node at an index; `None` where the node has not so many.
-fn child_at<S: Sources>(
-    alloc: Global,
-    bench: &mut Bench,
-    s: &mut S,
-    node: &NodeAt,
-    index: u64,
-) -> Result<Option<Spot>, WalkFault>
-    requires bench { IsBenchOf (S.view s.old) bench.old }
-    requires spot { IsSpotAt (state_of (S.view s.old) bench.old) node.now.source node.now.spot }
-    ensures sought { Sought S.view S.came_from (index + 1) s.old bench.old s.new bench.new }
-    ensures cause { HasCause (ops_of (state_of (S.view s.old) bench.old)) (S.view s.old) (S.view s.new) result }
-    ensures answer { let old = state_of (S.view s.old) bench.old in let new = state_of (S.view s.new) bench.new in
-        IfOk result (GivesPlace old new node.now.source (place_in old.world node.now.source node.now.spot ++ index ∷ [])) }
-{
-    let Some(mut at) = bench.spot_down(alloc, s, node.source, &node.spot)? else {
-        return Ok(None);
-    };
-    for passed in 0..index {
-        let Some(next) = bench.spot_right(alloc, s, node.source, &at)? else {
-            return Ok(None);
-        };
-        at = next;
-    }
-    Ok(Some(at))
-}
 
 /// The node that child indexes lead to from another; `None` where there is none. It asks at most as many fills as there are steps down and to the right.
 /// `Failed`: this source failed. Every earlier cursor and spot stays, whatever is answered.

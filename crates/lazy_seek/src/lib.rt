@@ -7,5 +7,5 @@ mod places;
 mod seeking;
 mod ways;
 
-pub use places::{NodeAt, Way, seek, seek_match};
+pub use places::{NodeAt, Way, child_at, seek, seek_match};
 pub use seeking::sought;

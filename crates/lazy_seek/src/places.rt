@@ -27,8 +27,9 @@ pub struct Way<'a> {
     pub steps: &'a [u64],
 }
 
-/// The child of a node at an index; `None` where the node has not so many.
-fn child_at<S: Sources>(
+/// The child of a node at an index; `None` where the node has not so many. It asks at most one fill more than the index. `Failed`: this source failed. Every
+/// earlier cursor and spot stays, whatever is answered.
+pub fn child_at<S: Sources>(
     alloc: Global,
     bench: &mut Bench,
     s: &mut S,

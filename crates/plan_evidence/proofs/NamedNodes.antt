@@ -1,6 +1,6 @@
 -- What a text names is a node of the plan's document.
 use Rattle.std.proofs.Common.{◌≡◌, ℕ, ◌+◌, ◌<◌, true, List, [], ◌∷◌, refl, sym, ap, subst, ◌∙◌, arith, length}
-use Rattle.std.specs.Prelude.{Some, slice_get}
+use Rattle.std.specs.Prelude.{Some, slice_get, is_some}
 use Rattle.std.specs.List.{AllByRecursion}
 use Rattle.mix_base.proofs.Choices.{some_is, none_some}
 use Rattle.mix_base.proofs.Firsts.{each_filter, each_weaker}
@@ -26,7 +26,7 @@ use Rattle.plan_evidence.proofs.Makers.{number_of, element_no_list}
 use Rattle.plan_evidence.proofs.Outers.{outer_is}
 use Rattle.plan_evidence.proofs.Shown.{shown, shown_by, before_shown, list_trees, IsLow, IsElementIn, IsIn, IsRow, IsListOf}
 use Rattle.plan_evidence.proofs.Sounds.{all_sound, single_piece}
-use Rattle.plan_evidence.proofs.TreeLists.{IsOne, AreOnes, has_member, has_one}
+use Rattle.plan_evidence.proofs.TreeLists.{IsOne, AreOnes, place_label, label_member, label_one}
 
 -- whether there is a place below a tree isn't told by its label
 pub any_label : (l m : List ℕ) (f : Forest) (q : List ℕ) → has_place (tree l f none) q ≡ has_place (tree m f none) q
@@ -84,38 +84,44 @@ module _ (p : PlanValue) (valid : IsValid p) (typed : IsTyped p.ops) (docs : Doc
 
   -- PICKED TREES
 
-  -- what a level picks of a list: a piece over a binding of an operator, whose places are those of the list from the tree's index on
+  -- what a level picks of a list: a piece over a binding of an operator, whose places have the labels of those of the list from the tree's index on
   pub record IsPicked (here : Reached) (list : Listing) (j : ℕ) (there : Reached) (q : Piece) : Type 0 where
     pub number : ℕ
     pub within : number < length p.ops
     pub sound : IsRow docs p.ops number there.row
     pub bound : IsPiece (kinds p.ops number) q
-    pub places : (r : List ℕ) → has_place (shown docs there.row q) r ≡ true → has_place (from j (list_trees docs p.ops list here.row)) r ≡ true
+    pub labels : (r : List ℕ) → has_place (shown docs there.row q) r ≡ true
+        → place_label (from j (list_trees docs p.ops list here.row)) r ≡ place_label (shown docs there.row q) r
+
+  -- a piece's places have the labels of those of the pieces' list, behind the trees of the pieces before it
+  pub piece_labels : (row : TolledRow) (pieces : List Piece) (k : ℕ) (q : Piece) (i : ℕ) (r : List ℕ) → slice_get pieces k ≡ Some q → has_place (from i (shown docs row q)) r ≡ true
+      → place_label (from (before_piece docs pieces row k + i) (joined (shown docs row) pieces)) r ≡ place_label (from i (shown docs row q)) r
+  piece_labels row pieces k q i r e h =
+      ap (λ c. place_label (from (c + i) (joined (shown docs row) pieces)) r) (before_shown docs row pieces k) ∙ label_member (shown docs row) pieces k q i r e h
 
   -- a piece's places are those of the pieces' list, behind the trees of the pieces before it
   pub piece_places : (row : TolledRow) (pieces : List Piece) (k : ℕ) (q : Piece) (i : ℕ) (r : List ℕ) → slice_get pieces k ≡ Some q → has_place (from i (shown docs row q)) r ≡ true
       → has_place (from (before_piece docs pieces row k + i) (joined (shown docs row) pieces)) r ≡ true
-  piece_places row pieces k q i r e h =
-      ap (λ c. has_place (from (c + i) (joined (shown docs row) pieces)) r) (before_shown docs row pieces k) ∙ has_member (shown docs row) pieces k q i r e h
+  piece_places row pieces k q i r e h = ap is_some (piece_labels row pieces k q i r e h) ∙ h
 
   -- what a level picks of a list is there
-  picked : {here there : Reached} {list : Listing} {l : LevelValue} {j : ℕ} {q : Piece} (n m : ℕ) → n < length p.ops → IsRow docs p.ops n here.row → IsListOf docs p.ops m n list → Picks docs p.ops here list l j there q
+  pub picked : {here there : Reached} {list : Listing} {l : LevelValue} {j : ℕ} {q : Piece} (n m : ℕ) → n < length p.ops → IsRow docs p.ops n here.row → IsListOf docs p.ops m n list → Picks docs p.ops here list l j there q
       → IsPicked here list j there q
   picked {here = here} {there = there} n m b sound g (of_member {n = i} {j = j} {keys = keys} {piece = q} z x) = record {
     number = i;
     within = g.within;
     sound = at_index (IsRow docs p.ops i) (members docs p.ops i keys here.row) j there.row (members_sound i g.within keys here.row) x.at;
     bound = single_piece p valid typed docs (kinds p.ops i) q g.single;
-    places = λ r h. has_one (λ s. shown docs s q) (members docs p.ops i keys here.row) j there.row r (members_ones i g.within keys here.row q g.single) x.at h;
+    labels = λ r h. label_one (λ s. shown docs s q) (members docs p.ops i keys here.row) j there.row r (members_ones i g.within keys here.row q g.single) x.at h;
   }
   picked {here = here} n m b sound g (of_piece {pieces = pieces} {l = l} {piece = q} e t s) = record {
     number = n;
     within = b;
     sound = sound;
     bound = (at_index (λ q. IsPiece (kinds p.ops n) q × IsLow docs p.ops m q) pieces l.piece q g e).0;
-    places = λ r h.
+    labels = λ r h.
         (let z : before_piece docs pieces here.row l.piece + 0 ≡ before_piece docs pieces here.row l.piece = omega arith in
-        sym (ap (λ c. has_place (from c (joined (shown docs here.row) pieces)) r) z) ∙ piece_places here.row pieces l.piece q 0 r e h);
+        sym (ap (λ c. place_label (from c (joined (shown docs here.row) pieces)) r) z) ∙ piece_labels here.row pieces l.piece q 0 r e h);
   }
   picked {here = here} {there = there} n m b sound g (of_list_member {pieces = pieces} {v = v} {n = i} {j = j} {keys = keys} {piece = q} {l = l} e t x) =
       let bound = (at_index (λ q. IsPiece (kinds p.ops n) q × IsLow docs p.ops m q) pieces l.piece (var_piece v) g e).0 in
@@ -126,11 +132,17 @@ module _ (p : PlanValue) (valid : IsValid p) (typed : IsTyped p.ops) (docs : Doc
         within = group.within;
         sound = at_index (IsRow docs p.ops i) (members docs p.ops i keys here.row) j there.row (members_sound i group.within keys here.row) x.at;
         bound = single_piece p valid typed docs (kinds p.ops i) q group.single;
-        places = λ r h.
-            piece_places here.row pieces l.piece (var_piece v) j r e
-            (ap (λ f. has_place (from j f) r) list.shows
-            ∙ has_one (λ s. shown docs s q) (members docs p.ops i keys here.row) j there.row r (members_ones i group.within keys here.row q group.single) x.at h);
+        labels = λ r h.
+            (let ones = members_ones i group.within keys here.row q group.single in
+            let own = label_one (λ s. shown docs s q) (members docs p.ops i keys here.row) j there.row r ones x.at h in
+            let shows = ap (λ f. place_label (from j f) r) list.shows in
+            piece_labels here.row pieces l.piece (var_piece v) j r e (ap is_some (shows ∙ own) ∙ h) ∙ shows ∙ own);
       }
+
+  -- the places of what a level picks are those of the list from the tree's index on
+  pub picked_place : (here : Reached) (list : Listing) (j : ℕ) (there : Reached) (q : Piece) → IsPicked here list j there q → (r : List ℕ) → has_place (shown docs there.row q) r ≡ true
+      → has_place (from j (list_trees docs p.ops list here.row)) r ≡ true
+  picked_place here list j there q x r h = ap is_some (x.labels r h) ∙ h
 
   -- where levels end at a value, the place below is there
   value_ends : (x : TolledValue) (q : List ℕ) → IsBelow docs p.ops x q → has_place (shown_by docs x) q ≡ true
@@ -139,7 +151,7 @@ module _ (p : PlanValue) (valid : IsValid p) (typed : IsTyped p.ops) (docs : Doc
   value_ends (trees f) q h = absurd h
 
   -- where levels end at a piece, the place below is there
-  piece_ends : (row : TolledRow) (x : Piece) (q : List ℕ) → Ends docs p.ops row x q → has_place (shown docs row x) q ≡ true
+  pub piece_ends : (row : TolledRow) (x : Piece) (q : List ℕ) → Ends docs p.ops row x q → has_place (shown docs row x) q ≡ true
   piece_ends row (var_piece v) q h = value_ends (tolled_value row v) q h
   piece_ends row (label_piece v) q h = ap (λ r. has_place (tree (label_at docs (row_node row v)) none none) r) h
   piece_ends row (text_piece label) q h = ap (λ r. has_place (tree label none none) r) h
@@ -156,16 +168,17 @@ module _ (p : PlanValue) (valid : IsValid p) (typed : IsTyped p.ops) (docs : Doc
       ∙ ap (λ f. has_place (tree [] f none) q) (x.shows ∙ (list_value n row sound x.inner list (a_list, x.bound) e).shows)
 
   -- where levels and a place below lead in a list, there is a node
-  leads_there : {here : Reached} {list : Listing} {ls : List LevelValue} {inside q : List ℕ} (n m : ℕ) → n < length p.ops → IsRow docs p.ops n here.row → IsListOf docs p.ops m n list → Leads docs p.ops here list ls inside q
+  pub leads_there : {here : Reached} {list : Listing} {ls : List LevelValue} {inside q : List ℕ} (n m : ℕ) → n < length p.ops → IsRow docs p.ops n here.row → IsListOf docs p.ops m n list → Leads docs p.ops here list ls inside q
       → HasIn (list_trees docs p.ops list here.row) q
-  leads_there n m b sound g (to_tree {there = there} {piece = x} {p = q} y e) = (picked n m b sound g y).places q (piece_ends there.row x q e)
-  leads_there n m b sound g (to_element {there = there} {inner = inner} {v = v} {u = u} {q = q} y f l r) =
+  leads_there {here = here} {list = list} n m b sound g (to_tree {there = there} {j = j} {piece = x} {p = q} y e) = picked_place here list j there x (picked n m b sound g y) q (piece_ends there.row x q e)
+  leads_there {here = here} {list = outside} n m b sound g (to_element {there = there} {inner = inner} {j = j} {v = v} {u = u} {q = q} y f l r) =
       let c = picked n m b sound g y in
       let x = element_value c.number there.row c.sound v u c.bound f in
       let same : u ≡ x.inner = some_is u x.inner (sym f ∙ x.is_inner) in
       let is : list_of p.ops x.inner ≡ Some inner = ap (list_of p.ops) (sym same) ∙ l in
       let list = list_value c.number there.row c.sound x.inner inner (a_list, x.bound) is in
-      c.places q (element_places c.number there.row c.sound v x inner is q ∙ leads_there c.number (number_of p.ops x.inner) c.within c.sound list.is_listed r)
+      picked_place here outside j there (var_piece v) c q
+      (element_places c.number there.row c.sound v x inner is q ∙ leads_there c.number (number_of p.ops x.inner) c.within c.sound list.is_listed r)
   leads_there {here = here} {ls = l ∷ ls} n m b sound g (to_pieces {pieces = pieces} {inner = inner} {v = v} {i = i} {q = q} e t f r) =
       let bound = (at_index (λ q. IsPiece (kinds p.ops n) q × IsLow docs p.ops m q) pieces l.piece (var_piece v) g e).0 in
       let list = list_value n here.row sound v (of_pieces inner) bound f in

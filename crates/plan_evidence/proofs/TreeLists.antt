@@ -1,10 +1,10 @@
 -- Lists of trees, one after another: how many trees each has, and what stands at a place among them.
 use Rattle.std.proofs.Common.{◌≡◌, ◌⊎◌, inl, inr, ℕ, zero, suc, ◌+◌, true, false, List, [], ◌∷◌, take, refl, sym, ap, ◌∙◌, arith}
-use Rattle.std.specs.Prelude.{Some, slice_get, is_some}
+use Rattle.std.specs.Prelude.{Option, Some, slice_get, is_some}
 use Rattle.std.specs.List.{AllByRecursion}
 use Rattle.mix_base.proofs.Choices.{some_is, none_some}
 use Rattle.mix_tree.specs.Forest.{Forest, none, tree, first_label, from, followed, joined}
-use Rattle.mix_tree.specs.Place.{has_place}
+use Rattle.mix_tree.specs.Place.{has_place, trees_at}
 use Rattle.mix_tree.proofs.Kids.{from_none}
 use Rattle.mix_tree.proofs.Places.{trees_at_none}
 
@@ -17,10 +17,18 @@ count (tree label kids rest) = suc (count rest)
 abbrev pub IsOne : Forest → Type 0
 IsOne f = (label : List ℕ) × (kids : Forest) × (f ≡ tree label kids none)
 
+-- the label at a place, where there is one
+abbrev pub place_label : Forest → List ℕ → Option (List ℕ)
+place_label f q = first_label (trees_at f q)
+
+-- the label at a tree or below it isn't told by the trees after it
+pub label_first : (label : List ℕ) (kids r s : Forest) (q : List ℕ) → place_label (tree label kids r) q ≡ place_label (tree label kids s) q
+label_first label kids r s [] = refl
+label_first label kids r s (i ∷ q) = refl
+
 -- whether there is a place at a tree or below it isn't told by the trees after it
 pub has_first : (label : List ℕ) (kids r s : Forest) (q : List ℕ) → has_place (tree label kids r) q ≡ has_place (tree label kids s) q
-has_first label kids r s [] = refl
-has_first label kids r s (i ∷ q) = refl
+has_first label kids r s q = ap is_some (label_first label kids r s q)
 
 -- among no trees there is no place
 pub nowhere : (i : ℕ) (q : List ℕ) → has_place (from i none) q ≡ true → ⊥
@@ -29,11 +37,15 @@ nowhere i q h =
     let z : true ≡ false = sym h ∙ e in
     let f : ⊥ = cc in f
 
+-- the label at a place among the first trees is that among those and others after them
+pub label_left : (f g : Forest) (i : ℕ) (q : List ℕ) → has_place (from i f) q ≡ true → place_label (from i (followed f g)) q ≡ place_label (from i f) q
+label_left none g i q h = absurd (nowhere i q h)
+label_left (tree label kids rest) g zero q h = label_first label kids (followed rest g) rest q
+label_left (tree label kids rest) g (suc i) q h = label_left rest g i q h
+
 -- a place among the first trees is one among those and others after them
 pub has_left : (f g : Forest) (i : ℕ) (q : List ℕ) → has_place (from i f) q ≡ true → has_place (from i (followed f g)) q ≡ true
-has_left none g i q h = absurd (nowhere i q h)
-has_left (tree label kids rest) g zero q h = has_first label kids (followed rest g) rest q ∙ h
-has_left (tree label kids rest) g (suc i) q h = has_left rest g i q h
+has_left f g i q h = ap is_some (label_left f g i q h) ∙ h
 
 -- behind the first trees stand the others
 pub from_after : (f g : Forest) (i : ℕ) → from (count f + i) (followed f g) ≡ from i g
@@ -64,19 +76,25 @@ module _ {X : Type 0} (f g : X → Forest) where
   joined_same (x ∷ xs) h = ap (λ (t : Forest). followed t (joined f xs)) h.0 ∙ ap (followed (g x)) (joined_same xs h.1)
 
 module _ {X : Type 0} (f : X → Forest) where
+  -- the label at a place among a member's trees is that among all trees, behind those of the members before it
+  pub label_member : (xs : List X) (k : ℕ) (x : X) (i : ℕ) (q : List ℕ) → slice_get xs k ≡ Some x → has_place (from i (f x)) q ≡ true
+      → place_label (from (count (joined f (take k xs)) + i) (joined f xs)) q ≡ place_label (from i (f x)) q
+  label_member [] k x i q e h = none_some x e
+  label_member (y ∷ xs) zero x i q e h =
+      let z : 0 + i ≡ i = omega arith in
+      let own : has_place (from i (f y)) q ≡ true = ap (λ (y : X). has_place (from i (f y)) q) (some_is y x e) ∙ h in
+      ap (λ (n : ℕ). place_label (from n (followed (f y) (joined f xs))) q) z ∙ label_left (f y) (joined f xs) i q own
+      ∙ ap (λ (y : X). place_label (from i (f y)) q) (some_is y x e)
+  label_member (y ∷ xs) (suc k) x i q e h =
+      let n : ℕ = count (joined f (take k xs)) in
+      let z : count (followed (f y) (joined f (take k xs))) + i ≡ count (f y) + (n + i) = omega (arith, count-followed (f y) (joined f (take k xs))) in
+      ap (λ (m : ℕ). place_label (from m (followed (f y) (joined f xs))) q) z
+      ∙ ap (λ (t : Forest). place_label t q) (from_after (f y) (joined f xs) (n + i)) ∙ label_member xs k x i q e h
+
   -- a place among a member's trees is one among all trees, behind those of the members before it
   pub has_member : (xs : List X) (k : ℕ) (x : X) (i : ℕ) (q : List ℕ) → slice_get xs k ≡ Some x → has_place (from i (f x)) q ≡ true
       → has_place (from (count (joined f (take k xs)) + i) (joined f xs)) q ≡ true
-  has_member [] k x i q e h = none_some x e
-  has_member (y ∷ xs) zero x i q e h =
-      let z : 0 + i ≡ i = omega arith in
-      ap (λ (n : ℕ). has_place (from n (followed (f y) (joined f xs))) q) z
-      ∙ has_left (f y) (joined f xs) i q (ap (λ (y : X). has_place (from i (f y)) q) (some_is y x e) ∙ h)
-  has_member (y ∷ xs) (suc k) x i q e h =
-      let n : ℕ = count (joined f (take k xs)) in
-      let z : count (followed (f y) (joined f (take k xs))) + i ≡ count (f y) + (n + i) = omega (arith, count-followed (f y) (joined f (take k xs))) in
-      ap (λ (m : ℕ). has_place (from m (followed (f y) (joined f xs))) q) z
-      ∙ ap (λ (t : Forest). has_place t q) (from_after (f y) (joined f xs) (n + i)) ∙ has_member xs k x i q e h
+  has_member xs k x i q e h = ap is_some (label_member xs k x i q e h) ∙ h
 
   -- a member among whose trees there is a place, counted from them
   pub record HasMember (xs : List X) (j : ℕ) (q : List ℕ) : Type 0 where
@@ -109,12 +127,18 @@ module _ {X : Type 0} (f : X → Forest) where
   abbrev pub AreOnes : List X → Type 0
   AreOnes xs = AllByRecursion (λ x. IsOne (f x)) xs
 
+  -- the label at a member's tree, or below it, is that at the member's index among all, where each member is one tree
+  pub label_one : (xs : List X) (j : ℕ) (x : X) (q : List ℕ) → AreOnes xs → slice_get xs j ≡ Some x → has_place (f x) q ≡ true
+      → place_label (from j (joined f xs)) q ≡ place_label (f x) q
+  label_one [] j x q a e h = none_some x e
+  label_one (y ∷ xs) zero x q a e h =
+      label_left (f y) (joined f xs) 0 q (ap (λ (y : X). has_place (f y) q) (some_is y x e) ∙ h) ∙ ap (λ (y : X). place_label (f y) q) (some_is y x e)
+  label_one (y ∷ xs) (suc j) x q a e h =
+      ap (λ (t : Forest). place_label (from (suc j) (followed t (joined f xs))) q) a.0.2 ∙ label_one xs j x q a.1 e h
+
   -- the tree of a member stands at the member's index, where each member is one tree
   pub has_one : (xs : List X) (j : ℕ) (x : X) (q : List ℕ) → AreOnes xs → slice_get xs j ≡ Some x → has_place (f x) q ≡ true → has_place (from j (joined f xs)) q ≡ true
-  has_one [] j x q a e h = none_some x e
-  has_one (y ∷ xs) zero x q a e h = has_left (f y) (joined f xs) 0 q (ap (λ (y : X). has_place (f y) q) (some_is y x e) ∙ h)
-  has_one (y ∷ xs) (suc j) x q a e h =
-      ap (λ (t : Forest). has_place (from (suc j) (followed t (joined f xs))) q) a.0.2 ∙ has_one xs j x q a.1 e h
+  has_one xs j x q a e h = ap is_some (label_one xs j x q a e h) ∙ h
 
   -- a place among trees of which each member has one is one at a member's tree
   pub one_of : (xs : List X) (j : ℕ) (q : List ℕ) → AreOnes xs → has_place (from j (joined f xs)) q ≡ true → (x : X) × (slice_get xs j ≡ Some x) × (has_place (f x) q ≡ true)
