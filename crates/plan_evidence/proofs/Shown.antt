@@ -1,5 +1,5 @@
 -- What the values of a binding show: each node, element and list as its maker says, and that this stays as variables are added.
-use Rattle.std.proofs.Common.{◌≡◌, ◌∙◌, ℕ, suc, ◌<◌, true, List, take, refl, sym, ap, length}
+use Rattle.std.proofs.Common.{◌≡◌, ◌∙◌, ℕ, suc, ◌<◌, true, List, [], take, refl, sym, ap, length}
 use Rattle.std.specs.Prelude.{Some, None}
 use Rattle.std.specs.List.{AllByRecursion, filter}
 use Rattle.std.proofs.Math.Path.{fun_ext}
@@ -13,6 +13,7 @@ use Rattle.plan_core.specs.declared.plan.Piece.{Piece}
 use Rattle.plan_core.specs.declared.plan.Piece.TheVariants.{Var as var_piece, LabelOf as label_piece, Text as text_piece}
 use Rattle.plan_core.specs.Events.{events}
 use Rattle.plan_core.specs.Plans.{Operator}
+use Rattle.plan_core.specs.Shapes.{an_element_of, extends, Shape, passes_on}
 use Rattle.plan_core.specs.Rows.{trees_in}
 use Rattle.plan_core.specs.Tolled.{Tolled, ends, item, plain}
 use Rattle.plan_core.specs.TolledRows.{TolledRow, TolledValue, of_source, element, trees, tolled_value, source_node, row_node, plain_value, plain_row, key_values, same_values, all_items, piece_items}
@@ -63,6 +64,11 @@ module _ (docs : Documents) where
   pub before_shown : (row : TolledRow) (pieces : List Piece) (k : ℕ) → before_piece docs pieces row k ≡ count (joined (shown docs row) (take k pieces))
   before_shown row pieces k = count-plain (all_items docs (take k pieces) row (ends 0)) ∙ ap count (pieces_shown row (take k pieces))
 
+-- the label of the element that a shape makes; of one that makes none, the empty one
+abbrev pub element_label : Shape → List ℕ
+element_label (passes_on input (extends out (an_element_of label list))) = label
+element_label f = []
+
 -- WHAT A LIST SHOWS
 
 -- the first keys tell the others: nodes that agree by the first agree by the others
@@ -109,6 +115,7 @@ module _ (docs : Documents) (ops : List Operator) where
     pub kids : Tolled
     pub inner : ℕ
     pub is_value : tolled_value row v ≡ element label kids
+    pub is_label : element_label (maker ops v) ≡ label
     pub is_inner : element_list (maker ops v) ≡ Some inner
     pub bound : ks inner ≡ Some a_list
     pub low : number_of ops inner < number_of ops v
@@ -198,6 +205,7 @@ module _ (docs : Documents) (ops : List Operator) where
       kids = h.kids;
       inner = h.inner;
       is_value = (within v an_element e).1 ∙ h.is_value;
+      is_label = h.is_label;
       is_inner = h.is_inner;
       bound = (within h.inner a_list h.bound).0;
       low = h.low;

@@ -39,7 +39,7 @@ use Rattle.plan_evidence.proofs.Evident.{each_both}
 use Rattle.plan_evidence.proofs.GroupRows.{agrees, collected_shown, group_shown, stand_first, each_group}
 use Rattle.plan_evidence.proofs.HeldApart.{held-of, anew, known_below}
 use Rattle.plan_evidence.proofs.Makers.{number_of, IsMadeBy, made_by, number_low}
-use Rattle.plan_evidence.proofs.Shown.{shown, shown_by, piece_shown, pieces_shown, Tell, list_trees, IsLow, IsListed, IsNodeIn, IsIn, IsSound, IsRow, IsWithin, keys_stay, listed_stays, list_stays, value_stays}
+use Rattle.plan_evidence.proofs.Shown.{shown, shown_by, piece_shown, pieces_shown, Tell, list_trees, IsLow, IsListed, IsNodeIn, IsIn, IsSound, IsRow, IsWithin, keys_stay, listed_stays, list_stays, value_stays, element_label}
 
 -- KEYS THAT TELL
 
@@ -174,6 +174,7 @@ module _ (p : PlanValue) (valid : IsValid p) (typed : IsTyped p.ops) (docs : Doc
         kids = piece_items docs (var_piece inner) row (ends 0);
         inner = inner;
         is_value = value_here out x row;
+        is_label = ap element_label m.is_maker ∙ ap element_label is;
         is_inner = ap element_list m.is_maker ∙ ap element_list is;
         bound = w.0;
         low = omega (arith, c, s, r);
