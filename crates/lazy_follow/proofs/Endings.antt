@@ -1,8 +1,12 @@
 -- The tree of a piece at the end of levels, by what it shows.
-use Rattle.std.proofs.Common.{◌≡◌, ◌<◌, ℕ, zero, suc, List, [], ◌∷◌, Some, None, refl, sym, subst, arith, length}
+use Rattle.std.proofs.Common.{◌≡◌, ◌<◌, ℕ, zero, suc, List, [], ◌∷◌, Some, None, ◌∙◌, refl, sym, ap, subst, arith, length}
 use Rattle.std.specs.Prelude.{IsTrue, slice_index_or}
 use Rattle.std.specs.List.{AllByRecursion}
+use Rattle.mix_tree.specs.Nodes.{Node}
 use Rattle.plan_core.specs.declared.plan.Piece.{Piece}
+use Rattle.plan_core.specs.declared.plan.Plan.{Plan}
+use Rattle.plan_core.specs.PlanMade.{plan_value}
+use Rattle.tree_buffer.specs.declared.spot.Spot.{Spot}
 use Rattle.plan_core.specs.declared.plan.Piece.TheVariants.{Var as var_piece, LabelOf as label_piece, Text as text_piece}
 use Rattle.plan_core.specs.ByNumber.{op_at}
 use Rattle.plan_core.specs.Plans.{Operator, source, get_descendants, join, over, tuple_destroy, PlanValue}
@@ -13,14 +17,16 @@ use Rattle.plan_core.specs.Valid.{a_node, Kinds, kinds, IsFit, IsPiece, IsSingle
 use Rattle.plan_core.proofs.Groups.{fit_group}
 use Rattle.plan_evidence.specs.Named.{maker, element_list, IsSingle}
 use Rattle.plan_forms.specs.Forms.{form, makes_element, is_text, pieces_of, piece_at, input_of, input_at, IsWritten}
-use Rattle.lazy_plan.specs.Bench.{BenchState, ops_of, documents}
+use Rattle.lazy_plan.specs.Bench.{BenchState, ops_of, documents, KeepsBench}
+use Rattle.lazy_seek.specs.Given.{given}
 use Rattle.lazy_seek.specs.declared.places.NodeAt.{NodeAt}
 use Rattle.lazy_follow.specs.declared.mark.Shown.{Shown}
 use Rattle.lazy_follow.specs.declared.mark.Shown.TheVariants.{Whole, Leaf, Element, Text}
 use Rattle.lazy_follow.specs.Choosing.{HasPiece}
+use Rattle.lazy_follow.specs.Below.{StandsBelow}
 use Rattle.lazy_follow.specs.Ends.{Shows}
 use Rattle.lazy_follow.specs.Following.{Stand, IsUnder, IsUnderVar, nodes_at}
-use Rattle.lazy_follow.specs.Marks.{IsShown}
+use Rattle.lazy_follow.specs.Marks.{IsShown, node_under, ShowsBelow}
 use Rattle.lazy_follow.proofs.Choices.{piece_bound_in}
 use Rattle.lazy_follow.proofs.Makes.{is_node}
 
@@ -99,3 +105,24 @@ module _ (st : BenchState) (s : Stand) (piece : Piece) (p : List ℕ) where
   shown_there (Leaf x) h = h.2.spot
   shown_there (Element m) h = (h.4, h.5)
   shown_there (Text m index) h = (h.0, subst (λ y. IsTrue (is_text y)) (sym h.1) h.2)
+
+  -- what shows no source's node is what its own tree shows
+  pub bare_shows : (shown : Shown) → ((x : NodeAt) → shown ≡ Whole x → ⊥) → Shows st (nodes_at (documents st) (ops_of st) s) piece shown → p ≡ []
+      → ShowsBelow st (record { inputs = []; stand = s; piece = piece }) p shown
+  bare_shows (Whole x) n h e = absurd (n x refl)
+  bare_shows (Leaf x) n h e = (h.0, h.1, h.2, e)
+  bare_shows (Element m) n h e = (h.0, h.2, h.6, e)
+  bare_shows (Text m index) n h e = (h.1, e)
+
+-- a spot that stands for a place below a source's node shows the node there
+pub whole_shows : (old new : BenchState) → KeepsBench old new → (s : Stand) (piece : Piece) (p : List ℕ) (from : NodeAt) (x : Spot)
+    → Shows old (nodes_at (documents old) (ops_of old) s) piece (Whole from) → StandsBelow old new from p x
+    → ShowsBelow new (record { inputs = []; stand = s; piece = piece }) p (Whole (record { source = from.source; spot = x }))
+whole_shows old new kept s piece p from x h b =
+    let under : Plan → Node = λ q. node_under (given (plan_value q).ops s.op s.places h.0) p in
+    let there : List ℕ → Node = λ place. record { source = from.source; place = place } in (
+      h.0,
+      h.1,
+      subst (λ (q : Plan). element_list (maker (plan_value q).ops h.0) ≡ None) (sym kept.plan) h.2,
+      record { spot = b.spot; node = ap there b.place_is ∙ ap (λ (n : Node). node_under n p) h.3.node ∙ ap under (sym kept.plan) },
+    )

@@ -20,7 +20,7 @@ use Rattle.lazy_follow.proofs.ReachedRows.{IsAt, IsKnown, list_known, inner_know
 use Rattle.lazy_follow.proofs.ToldLists.{IsToldPiece}
 
 -- no levels lead to a list itself
-no_root : {docs : Documents} {ops : List Operator} {here : Reached} {list : Listing} {ls : List LevelValue} {q : List ℕ} → Leads docs ops here list ls q [] → ⊥
+pub no_root : {docs : Documents} {ops : List Operator} {here : Reached} {list : Listing} {ls : List LevelValue} {q : List ℕ} → Leads docs ops here list ls q [] → ⊥
 no_root r = elim r [ ]
 
 module _ (p : PlanValue) (valid : IsValid p) (typed : IsTyped p.ops) (uses : UsesHeld p.ops) (docs : Documents) where

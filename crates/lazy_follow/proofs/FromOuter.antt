@@ -1,6 +1,6 @@
 -- Levels followed from the outer element.
 use Rattle.std.proofs.Common.{◌≡◌, ◌∙◌, ◌<◌, ℕ, suc, List, [], ◌∷◌, Option, Some, None, refl, sym, ap, subst, arith}
-use Rattle.std.specs.Prelude.{Result, Ok, Err, IfOk, IfSome}
+use Rattle.std.specs.Prelude.{Result, Ok, Err, IfOk, IfSome, option_and_then}
 use Rattle.std.specs.List.{last_or}
 use Rattle.mix_base.proofs.Choices.{some_is, none_some}
 use Rattle.mix_tree.specs.Nodes.{Documents}
@@ -20,10 +20,11 @@ use Rattle.lazy_follow.specs.declared.following.Trail.{Trail}
 use Rattle.lazy_follow.specs.declared.members.Group.{Group}
 use Rattle.lazy_follow.specs.Choosing.{IsListBy}
 use Rattle.lazy_follow.specs.Ends.{stand_of}
-use Rattle.lazy_follow.specs.Following.{list_in, Follows, FollowsFromOuter, IsFollowedBy}
+use Rattle.lazy_follow.specs.Following.{list_in, Follows, FollowsFromOuter, IsFollowedBy, Ending, ending, outer_ending, text_ending}
 use Rattle.lazy_follow.specs.Levels.{IsListIn}
 use Rattle.lazy_follow.specs.Scope.{InScope}
 use Rattle.lazy_follow.specs.Spotted.{IsSpotted}
+use Rattle.lazy_follow.specs.Marks.{HasEnd}
 use Rattle.lazy_follow.specs.Trails.{GivesTrail}
 
 -- what binds a variable has the operator in its scope that is in that of each before a later one which does
@@ -38,12 +39,12 @@ by_is : (ops : List Operator) (n : ℕ) (list : Listing) (o : Option Listing) �
 by_is ops n list None b e = none_some n (sym b)
 by_is ops n list (Some l) b e = sym b.1 ∙ e
 
--- an answer for one thing to be followed is an answer for what is the same
-gives_as : (old new : BenchState) (levels : List LevelValue) (F G : Type 0) (r : Result (Option Trail) WalkFault) → (F → G) → (G → F)
-    → IfOk r (GivesTrail old new levels F) → IfOk r (GivesTrail old new levels G)
-gives_as old new levels F G (Err e) to from h = tt
-gives_as old new levels F G (Ok None) to from h = λ tells g. h tells (from g)
-gives_as old new levels F G (Ok (Some t)) to from h = (h.0, λ tells. to (h.1 tells))
+-- an answer for one thing to be followed is an answer for what is the same, and ends at the same tree
+gives_as : (old new : BenchState) (levels : List LevelValue) (p : List ℕ) (F G : Type 0) (D E : Option Ending) (r : Result (Option Trail) WalkFault) → (F → G) → (G → F) → D ≡ E
+    → IfOk r (GivesTrail old new levels p F D) → IfOk r (GivesTrail old new levels p G E)
+gives_as old new levels p F G D E (Err e) to from same h = tt
+gives_as old new levels p F G D E (Ok None) to from same h = λ tells g. h tells (from g)
+gives_as old new levels p F G D E (Ok (Some t)) to from same h = (h.0, λ tells. to (h.1 tells), subst (λ (e : Option Ending). HasEnd new e p t.members.items t.shown) same h.2)
 
 -- the outer element of operators
 abbrev IsOuterOf : List Operator → ℕ → ℕ → Type 0
@@ -84,6 +85,13 @@ module _ (docs : Documents) (ops : List Operator) (input v : ℕ) (is : IsOuterO
       let at : f.input ≡ n = ap (λ (x : ℕ × ℕ). x.0) (same_outer f.input f.outer f.is_outer) ∙ sym e in
       subst (λ (i : ℕ). Follows docs ops (record { op = i; places = [] }) list levels p) at (subst (λ (x : Listing). Follows docs ops (record { op = f.input; places = [] }) x levels p) same f.follows)
 
+  -- levels end from the outer element on where they do from its list
+  pub ends_there : (l : LevelValue) (ls : List LevelValue) (n : ℕ) → n ≡ input → (list : Listing) → list_in ops (var_piece v) ≡ Some list
+      → ending ops (record { op = n; places = [] }) list (l ∷ ls) ≡ text_ending ops (l ∷ ls)
+  ends_there l ls n e list is_list =
+      let at : ℕ → Listing → Option Ending = λ i x. ending ops (record { op = i; places = [] }) x (l ∷ ls) in
+      ap (λ (i : ℕ). at i list) e ∙ sym (ap (option_and_then (at input)) is_list) ∙ sym (ap (option_and_then (λ (o : ℕ × ℕ). outer_ending ops o (l ∷ ls))) is)
+
 -- the list of the outer element stands in the binding of its input
 pub outer_in : (st : BenchState) (input : ℕ) (from : Group) → from.here.now.op ≡ input → IsSpotted st [] from.here.now → InScope (ops_of st) input from.op → (o : Option Listing)
     → IsListBy (ops_of st) o (Some from.op) → IsListIn st [] from
@@ -99,16 +107,19 @@ outer_in st input from e here scope (Some list) by = record {
 -- what is followed from the outer element is followed from its list
 pub outer_ahead : (st new : BenchState) (input v : ℕ) → IsOuterOf (ops_of st) input v → (levels : List LevelValue) (p : List ℕ) → (levels ≡ [] → ⊥)
     → (r : Result (Option Trail) WalkFault) (from : Group)
-    → ((h : IsListIn st [] from) → IfOk r (GivesTrail st new levels (Follows (documents st) (ops_of st) (stand_of [] from.here.now) h.list levels p)))
+    → ((h : IsListIn st [] from)
+    → IfOk r (GivesTrail st new levels p (Follows (documents st) (ops_of st) (stand_of [] from.here.now) h.list levels p) (ending (ops_of st) (stand_of [] from.here.now) h.list levels)))
     → from.here.now.op ≡ input → IsSpotted st [] from.here.now → InScope (ops_of st) input from.op → IsListBy (ops_of st) (list_in (ops_of st) (var_piece v)) (Some from.op)
-    → IfOk r (GivesTrail st new levels (IsFollowedBy (documents st) (ops_of st) levels p))
+    → IfOk r (GivesTrail st new levels p (IsFollowedBy (documents st) (ops_of st) levels p) (text_ending (ops_of st) levels))
 outer_ahead st new input v is [] p some r from g e here scope by = absurd (some refl)
 outer_ahead st new input v is (l ∷ ls) p some r from g e here scope by =
     let h = outer_in st input from e here scope (list_in (ops_of st) (var_piece v)) by in
     let is_list = by_is (ops_of st) from.op h.list (list_in (ops_of st) (var_piece v)) by h.is_list in
-    gives_as st new (l ∷ ls) (Follows (documents st) (ops_of st) (stand_of [] from.here.now) h.list (l ∷ ls) p) (IsFollowedBy (documents st) (ops_of st) (l ∷ ls) p) r
+    gives_as st new (l ∷ ls) p (Follows (documents st) (ops_of st) (stand_of [] from.here.now) h.list (l ∷ ls) p) (IsFollowedBy (documents st) (ops_of st) (l ∷ ls) p)
+    (ending (ops_of st) (stand_of [] from.here.now) h.list (l ∷ ls)) (text_ending (ops_of st) (l ∷ ls)) r
     (λ f. from_list (documents st) (ops_of st) input v is (l ∷ ls) p from.here.now.op e h.list is_list f)
-    (λ f. to_list (documents st) (ops_of st) input v is (l ∷ ls) p from.here.now.op e h.list is_list f) (g h)
+    (λ f. to_list (documents st) (ops_of st) input v is (l ∷ ls) p from.here.now.op e h.list is_list f)
+    (ends_there (documents st) (ops_of st) input v is l ls from.here.now.op e h.list is_list) (g h)
 
 -- no spots are those of evidence without variables
 pub no_spots : (st : BenchState) (n : ℕ) → evidence_vars (ops_of st) n ≡ [] → (spots : List Spot) → spots ≡ []

@@ -1,6 +1,6 @@
 -- What leads to a place can be followed, and so, from the outer element on, a text names a node exactly where it can be followed.
 use Rattle.std.proofs.Common.{◌≡◌, ℕ, List, [], ◌∷◌, Option, Some, None, refl, sym, ap, subst, ◌∙◌, arith}
-use Rattle.std.specs.Prelude.{MatchOption, option_and_then}
+use Rattle.std.specs.Prelude.{MatchOption, option_and_then, option_map, slice_get}
 use Rattle.std.specs.List.{last_or}
 use Rattle.mix_base.proofs.Choices.{some_is, none_some}
 use Rattle.mix_base.specs.Events.{found}
@@ -18,16 +18,17 @@ use Rattle.plan_core.proofs.Typed.{valid_is_typed}
 use Rattle.plan_evidence.specs.Evidence.{IsEvidence, places_of}
 use Rattle.plan_evidence.specs.Held.{AreOf, UsesHeld}
 use Rattle.plan_evidence.specs.Laws.{HasEvidence}
-use Rattle.plan_evidence.specs.Named.{maker, Listing, of_pieces, of_group, element_list, list_of, IsSingle, Reached, IsMember, Picks, of_member, of_piece, of_list_member, Leads, to_tree, to_element, to_pieces, outer_of, LeadsFromOuter, NamesBy}
+use Rattle.plan_evidence.specs.Named.{maker, Listing, of_pieces, of_group, element_list, list_of, IsSingle, Reached, IsMember, Picks, of_member, of_piece, of_list_member, Leads, to_tree, to_element, to_pieces, outer_of, IsOuter, LeadsFromOuter, NamesBy}
 use Rattle.plan_evidence.proofs.Evidences.{bindings_have_evidence}
 use Rattle.plan_evidence.proofs.Outers.{outer_is, first_holds}
-use Rattle.lazy_follow.specs.Following.{Choice, a_tree, a_member, a_list_among, without_places, value_choice, piece_choice, choice, list_in, Stand, nodes_at, FollowsTree, FollowsFrom, FollowsFromOuter, IsFollowedBy, FollowedAreNamed}
+use Rattle.lazy_follow.specs.Following.{Choice, a_tree, a_member, a_list_among, without_places, value_choice, piece_choice, choice, list_in, Stand, nodes_at, FollowsTree, FollowsFrom, FollowsFromOuter, IsFollowedBy, FollowedAreNamed, before, tree_ending, ending}
 use Rattle.lazy_follow.proofs.Choices.{first_chosen}
 use Rattle.lazy_follow.proofs.FollowedLeads.{FollowsBy, reached, piece_bound, piece_told, each_leads}
 use Rattle.lazy_follow.proofs.Groups.{given_evidence}
 use Rattle.lazy_follow.proofs.SingleEvidence.{outer_input}
 use Rattle.lazy_follow.proofs.ReachedRows.{same_binding, IsAt, IsKnown, list_known, inner_known, single_bound, under_is, member_met}
 use Rattle.lazy_follow.proofs.ToldLists.{IsToldPiece}
+use Rattle.lazy_follow.proofs.Trails.{choice_ends}
 
 module _ (p : PlanValue) (valid : IsValid p) (typed : IsTyped p.ops) (uses : UsesHeld p.ops) (docs : Documents) where
   -- WHAT LEADS TO A PLACE CAN BE FOLLOWED
@@ -39,13 +40,15 @@ module _ (p : PlanValue) (valid : IsValid p) (typed : IsTyped p.ops) (uses : Use
   single_choice places t (text_piece label) h = ap (λ (ps : List (List ℕ)). without_places ps (a_tree (text_piece label))) t
 
   -- a level that picks a tree leads to a binding by its places, and what can be followed from that tree can be followed from the list
-  record IsChosenAt (s : Stand) (list : Listing) (l : LevelValue) (ls : List LevelValue) (q : List ℕ) (there : Reached) (x : Piece) : Type 0 where
-    stand : Stand
-    at : IsAt p valid typed uses docs stand there.row
-    of : AreOf docs p.ops stand.op there.nodes there.row
-    single : IsSinglePiece (kinds p.ops stand.op) x
-    told : IsToldPiece p valid typed docs stand.op x
-    follows : FollowsTree docs p.ops (FollowsBy p valid typed uses docs ls q) stand x ls q → FollowsBy p valid typed uses docs (l ∷ ls) q s list
+  pub record IsChosenAt (s : Stand) (list : Listing) (l : LevelValue) (ls : List LevelValue) (q : List ℕ) (there : Reached) (x : Piece) : Type 0 where
+    pub stand : Stand
+    pub at : IsAt p valid typed uses docs stand there.row
+    pub of : AreOf docs p.ops stand.op there.nodes there.row
+    pub single : IsSinglePiece (kinds p.ops stand.op) x
+    pub told : IsToldPiece p valid typed docs stand.op x
+    pub follows : FollowsTree docs p.ops (FollowsBy p valid typed uses docs ls q) stand x ls q → FollowsBy p valid typed uses docs (l ∷ ls) q s list
+    pub input : Option ℕ
+    pub ends : option_map (before input) (tree_ending p.ops (λ there inner. ending p.ops there inner ls) stand x ls) ≡ ending p.ops s list (l ∷ ls)
 
   -- a member that a level picks of a group is chosen, where the level chooses of the list a member of that group
   member_chosen : (here there : Reached) (list : Listing) (l : LevelValue) (ls : List LevelValue) (q : List ℕ) (s : Stand)
@@ -63,10 +66,12 @@ module _ (p : PlanValue) (valid : IsValid p) (typed : IsTyped p.ops) (uses : Use
         single = known.listed.single;
         told = known.told.told_piece;
         follows = λ h. subst (λ (c : Choice). FollowsFrom docs p.ops (FollowsBy p valid typed uses docs ls q) s l.tuple c ls q) (sym e) (r.0, h);
+        input = Some n;
+        ends = choice_ends docs p.ops s list l ls q (a_member n own x) e;
       }
 
   -- what a level picks is chosen
-  picked : {here there : Reached} {list : Listing} {l : LevelValue} {j : ℕ} {x : Piece} (ls : List LevelValue) (q : List ℕ) (s : Stand)
+  pub picked : {here there : Reached} {list : Listing} {l : LevelValue} {j : ℕ} {x : Piece} (ls : List LevelValue) (q : List ℕ) (s : Stand)
       → IsAt p valid typed uses docs s here.row → AreOf docs p.ops s.op here.nodes here.row
       → IsKnown p valid typed uses docs s.op list → Picks docs p.ops here list l j there x → IsChosenAt s list l ls q there x
   picked {here = here} {there = there} {l = l} ls q s at of known (of_member {n = n} {j = j} {keys = own} {piece = x} z m) =
@@ -80,6 +85,8 @@ module _ (p : PlanValue) (valid : IsValid p) (typed : IsTyped p.ops) (uses : Use
         single = single_bound p valid typed uses docs s.op here.row at.sound x (piece_bound p valid typed uses docs s pieces known l.piece x e) no_list;
         told = piece_told p valid typed uses docs s pieces known l.piece x e;
         follows = λ h. subst (λ (c : Choice). FollowsFrom docs p.ops (FollowsBy p valid typed uses docs ls q) s l.tuple c ls q) (sym c) h;
+        input = None;
+        ends = choice_ends docs p.ops s (of_pieces pieces) l ls q (a_tree x) c;
       }
   picked {here = here} {there = there} {l = l} ls q s at of known (of_list_member {pieces = pieces} {v = v} {n = n} {j = j} {keys = own} {piece = x} e g m) =
       let b = at.early in
@@ -96,6 +103,11 @@ module _ (p : PlanValue) (valid : IsValid p) (typed : IsTyped p.ops) (uses : Use
       let e : list_in p.ops (var_piece v) ≡ Some inner = ap (option_and_then (list_of p.ops)) f ∙ g in
       subst (λ (o : Option Listing). MatchOption o ⊥ (FollowsBy p valid typed uses docs (l ∷ ls) q t)) (sym e) h
 
+  -- a level without places chooses the concatenation that a piece is
+  pub among_choice : (pieces inner : List Piece) (l : LevelValue) (v : ℕ) → slice_get pieces l.piece ≡ Some (var_piece v) → l.tuple ≡ [] → list_of p.ops v ≡ Some (of_pieces inner)
+      → choice p.ops (of_pieces pieces) l ≡ a_list_among inner
+  among_choice pieces inner l v e t g = ap (piece_choice p.ops l.tuple) e ∙ ap (value_choice v l.tuple) g ∙ ap (λ (ps : List (List ℕ)). without_places ps (a_list_among inner)) t
+
   -- what leads from a list to a place can be followed
   followed_on : {here : Reached} {list : Listing} {ls : List LevelValue} {q place : List ℕ} (s : Stand) → IsAt p valid typed uses docs s here.row
       → AreOf docs p.ops s.op here.nodes here.row
@@ -111,29 +123,27 @@ module _ (p : PlanValue) (valid : IsValid p) (typed : IsTyped p.ops) (uses : Use
   followed_on {here = here} s at of known (to_pieces {pieces = pieces} {inner = inner} {l = l} {ls = ls} {v = v} {p = q} e t g leads) =
       let b = at.early in
       let k = list_known p valid typed uses docs s.op v (omega (arith, b)) here.row at.sound (piece_bound p valid typed uses docs s pieces known l.piece (var_piece v) e) (of_pieces inner) g in
-      let c : choice p.ops (of_pieces pieces) l ≡ a_list_among inner =
-      ap (piece_choice p.ops l.tuple) e ∙ ap (value_choice v l.tuple) g ∙ ap (λ (ps : List (List ℕ)). without_places ps (a_list_among inner)) t in
-      subst (λ (c : Choice). FollowsFrom docs p.ops (FollowsBy p valid typed uses docs ls q) s l.tuple c ls q) (sym c) (followed_on s at of k leads)
+      subst (λ (c : Choice). FollowsFrom docs p.ops (FollowsBy p valid typed uses docs ls q) s l.tuple c ls q) (sym (among_choice pieces inner l v e t g)) (followed_on s at of k leads)
 
   -- FROM THE OUTER ELEMENT
 
   -- where the outer element's list stands: an operator's single binding, without places
-  abbrev outer_stand : ℕ → Stand
+  abbrev pub outer_stand : ℕ → Stand
   outer_stand input = record { op = input; places = [] }
 
   -- an operator's first binding
-  abbrev outer_row : ℕ → TolledRow
+  abbrev pub outer_row : ℕ → TolledRow
   outer_row input = first_row (found (events docs p.ops input))
 
   -- the outer element's binding was reached without places, and binds the element's list
-  record IsOuterAt (input u : ℕ) : Type 0 where
-    at : IsAt p valid typed uses docs (outer_stand input) (outer_row input)
-    evidence : IsEvidence docs p.ops input [] (nodes_at docs p.ops (outer_stand input))
-    bound : kinds p.ops input u ≡ Some a_list
+  pub record IsOuterAt (input u : ℕ) : Type 0 where
+    pub at : IsAt p valid typed uses docs (outer_stand input) (outer_row input)
+    pub evidence : IsEvidence docs p.ops input [] (nodes_at docs p.ops (outer_stand input))
+    pub bound : kinds p.ops input u ≡ Some a_list
 
   module _ (tolled : TolledIsDocument p) where
     -- what the last operator reads is the outer element's binding
-    outer_at : (input outer u : ℕ) → outer_of (last_or None p.ops) ≡ Some (input, outer) → element_list (maker p.ops outer) ≡ Some u → IsOuterAt input u
+    pub outer_at : (input outer u : ℕ) → outer_of (last_or None p.ops) ≡ Some (input, outer) → element_list (maker p.ops outer) ≡ Some u → IsOuterAt input u
     outer_at input outer u is e =
         let o = outer_is p valid typed tolled docs in
         let pairs : ◌≡◌ {A = ℕ × ℕ} (o.input, o.outer) (input, outer) = some_is (o.input, o.outer) (input, outer) (sym o.is_outer ∙ is) in
@@ -152,7 +162,7 @@ module _ (p : PlanValue) (valid : IsValid p) (typed : IsTyped p.ops) (uses : Use
         subst (λ (n : ℕ). IsOuterAt n u) (ap (λ (x : ℕ × ℕ). x.0) pairs) there
 
     -- the outer element's list is known
-    outer_known : (input u : ℕ) → IsOuterAt input u → (list : Listing) → list_of p.ops u ≡ Some list → IsKnown p valid typed uses docs input list
+    pub outer_known : (input u : ℕ) → IsOuterAt input u → (list : Listing) → list_of p.ops u ≡ Some list → IsKnown p valid typed uses docs input list
     outer_known input u x list g = (let b = x.at.early in list_known p valid typed uses docs input u (omega (arith, b)) (outer_row input) x.at.sound (a_list, x.bound) list g)
 
     -- what can be followed from the outer element leads from it to some place
@@ -174,24 +184,38 @@ module _ (p : PlanValue) (valid : IsValid p) (typed : IsTyped p.ops) (uses : Use
               },
             )
 
+    -- the outer element's list stands in a binding that was reached without places, and is known
+    pub record IsFromOuter (here : Reached) (inner : Listing) (o : IsOuter docs p.ops here inner) : Type 0 where
+      pub at : IsAt p valid typed uses docs (outer_stand o.input) here.row
+      pub of : AreOf docs p.ops o.input here.nodes here.row
+      pub known : IsKnown p valid typed uses docs o.input inner
+
+    -- the list of the outer element is reached so, whatever evidence it is said by
+    pub from_outer : (here : Reached) (inner : Listing) (o : IsOuter docs p.ops here inner) → IsFromOuter here inner o
+    from_outer here inner o =
+        let w = outer_at o.input o.outer o.list o.is_outer o.is_list in
+        let s : Stand = outer_stand o.input in
+        let no_vars = (outer_input p valid typed o.input o.outer o.is_outer).no_vars in
+        let evidence : IsEvidence docs p.ops o.input [] here.nodes = record { right = o.right; written = ap (λ (vs : List ℕ). places_of vs here.nodes) no_vars } in
+        let of = same_binding p valid typed uses docs o.input w.at.early [] (nodes_at docs p.ops s) here.nodes w.evidence evidence (outer_row o.input) w.at.of in
+        record {
+          at = subst (IsAt p valid typed uses docs s) (sym o.is_row) w.at;
+          of = subst (AreOf docs p.ops o.input here.nodes) (sym o.is_row) of;
+          known = outer_known o.input o.list w inner o.is_inner;
+        }
+
     -- what leads from the outer element to a place can be followed
     outer_followed : (ls : List LevelValue) (q place : List ℕ) → LeadsFromOuter docs p.ops ls q place → FollowsFromOuter docs p.ops ls q
     outer_followed ls q place x =
         let o = x.is_outer in
-        let w = outer_at o.input o.outer o.list o.is_outer o.is_list in
-        let s : Stand = outer_stand o.input in
-        let no_vars = (outer_input p valid typed o.input o.outer o.is_outer).no_vars in
-        let evidence : IsEvidence docs p.ops o.input [] x.here.nodes = record { right = o.right; written = ap (λ (vs : List ℕ). places_of vs x.here.nodes) no_vars } in
-        let of = same_binding p valid typed uses docs o.input w.at.early [] (nodes_at docs p.ops s) x.here.nodes w.evidence evidence (outer_row o.input) w.at.of in
+        let w = from_outer x.here x.inner o in
         record {
           input = o.input;
           outer = o.outer;
           list = x.inner;
           is_outer = o.is_outer;
           is_list = ap (option_and_then (list_of p.ops)) o.is_list ∙ o.is_inner;
-          follows =
-              followed_on {here = x.here} s (subst (IsAt p valid typed uses docs s) (sym o.is_row) w.at) (subst (AreOf docs p.ops o.input x.here.nodes) (sym o.is_row) of)
-              (outer_known o.input o.list w x.inner o.is_inner) x.leads;
+          follows = followed_on {here = x.here} (outer_stand o.input) w.at w.of w.known x.leads;
         }
 
     -- what can be followed names a node

@@ -1,6 +1,6 @@
 -- One level followed, and those behind it.
 use Rattle.std.proofs.Common.{◌≡◌, ◌∙◌, ◌+◌, ◌≤◌, ℕ, List, [], ◌∷◌, Option, Some, None, refl, sym, ap, subst, arith, length}
-use Rattle.std.specs.Prelude.{MatchOption, Result, Ok, Err, IfOk}
+use Rattle.std.specs.Prelude.{MatchOption, Result, Ok, Err, IfOk, option_and_then, option_map}
 use Rattle.mix_base.proofs.Choices.{some_is, none_some}
 use Rattle.mix_tree.specs.Nodes.{Documents}
 use Rattle.node_text.specs.Node.{LevelValue}
@@ -24,14 +24,14 @@ use Rattle.lazy_follow.specs.declared.levels.Led.TheVariants.{List as list_led, 
 use Rattle.lazy_follow.specs.declared.members.Group.{Group}
 use Rattle.lazy_follow.specs.Choosing.{IsListBy}
 use Rattle.lazy_follow.specs.Ends.{IsTreeAt, stand_of}
-use Rattle.lazy_follow.specs.Following.{a_tree, a_member, a_list_among, choice, list_in, Stand, FollowsTree, Follows}
+use Rattle.lazy_follow.specs.Following.{a_tree, a_member, a_list_among, choice, list_in, Stand, FollowsTree, Follows, Ending, before, tree_ending, ending}
 use Rattle.lazy_follow.specs.Levels.{IsListIn, IsLed}
 use Rattle.lazy_follow.specs.Marks.{levels_reach}
 use Rattle.lazy_follow.specs.Scope.{InScope}
 use Rattle.lazy_follow.specs.Trails.{GivesTrail, GoesBefore}
 use Rattle.lazy_follow.proofs.Groups.{spotted_on}
 use Rattle.lazy_follow.proofs.Makes.{member_single}
-use Rattle.lazy_follow.proofs.Trails.{tree_chosen, among_chosen, held_before, holds_after, inner_list, tree_at, follows_choice, choice_follows, trail_before}
+use Rattle.lazy_follow.proofs.Trails.{tree_chosen, among_chosen, held_before, holds_after, inner_list, tree_at, follows_choice, choice_follows, choice_ends, trail_before}
 
 -- a level and those behind it reach as far as they do one after another
 pub reach_ahead : (levels ls : List LevelValue) (l : LevelValue) (p : List ℕ) → levels ≡ l ∷ ls → reaches l.tuple + (levels_reach ls + reach p) ≤ levels_reach levels + reach p
@@ -44,6 +44,10 @@ fewer_ahead levels ls l e = (let q : length levels ≡ length (l ∷ ls) = ap le
 -- levels and a place below can be followed behind a tree, in a state
 abbrev pub TreeThere : Documents → Plan → Stand → Piece → List LevelValue → List ℕ → Type 0
 TreeThere d q s x ls p = FollowsTree d (plan_value q).ops (λ there inner. Follows d (plan_value q).ops there inner ls p) s x ls p
+
+-- where the levels behind a tree end
+abbrev pub tree_ends : Plan → Stand → Piece → List LevelValue → Option Ending
+tree_ends q s x ls = tree_ending (plan_value q).ops (λ there inner. ending (plan_value q).ops there inner ls) s x ls
 
 module _ (old mid : BenchState) (kept : KeepsBench old mid) (places : List (List ℕ)) (from : Group) (h : IsListIn old places from) (l : LevelValue) where
   -- the list that a level chose
@@ -70,36 +74,49 @@ module _ (old mid : BenchState) (kept : KeepsBench old mid) (places : List (List
       (member_single (plan_value old.plan) valid (valid_is_typed (plan_value old.plan) valid) n led.0)
 
   module _ (ls : List LevelValue) (p : List ℕ) (new : BenchState) (t r : Option Trail) where
+    -- what is found where the level and those behind it are followed
+    abbrev pub FromHere : Option Trail → Type 0
+    FromHere x =
+        GivesTrail old new (l ∷ ls) p (Follows (documents old) (ops_of old) (stand_of places from.here.now) h.list (l ∷ ls) p) (ending (ops_of old) (stand_of places from.here.now) h.list (l ∷ ls)) x
+
     -- a level that chose a list, and those behind it
     pub list_ahead : (n : ℕ) (led : IsLed old mid places from l.tuple (choice (ops_of old) h.list l) (list_led n)) (to : IsListIn mid places (record { op = n; here = from.here }))
-        → GivesTrail mid new ls (Follows (documents mid) (ops_of mid) (stand_of places from.here.now) to.list ls p) t
-        → GoesBefore None t r → GivesTrail old new (l ∷ ls) (Follows (documents old) (ops_of old) (stand_of places from.here.now) h.list (l ∷ ls) p) r
+        → GivesTrail mid new ls p (Follows (documents mid) (ops_of mid) (stand_of places from.here.now) to.list ls p) (ending (ops_of mid) (stand_of places from.here.now) to.list ls) t
+        → GoesBefore None t r → FromHere r
     list_ahead n led to g =
         let s = stand_of places from.here.now in
         let inner = pieces_of (op_at (ops_of old) n) in
         let same : to.list ≡ of_pieces inner = some_is to.list (of_pieces inner) (sym to.is_list ∙ ap (λ (q : Plan). listing (shape_at (plan_value q).ops n)) kept.plan ∙ led.0.listed) in
         let P : Documents → Plan → Type 0 = λ d q. Follows d (plan_value q).ops s (of_pieces inner) ls p in
-        trail_before old mid new kept l ls (Follows (documents old) (ops_of old) s h.list (l ∷ ls) p) (P (documents mid) mid.plan) None t r (among_chosen (ops_of old) h.list l inner led.2)
+        let end : Plan → Option Ending = λ q. ending (plan_value q).ops s (of_pieces inner) ls in
+        trail_before old mid new kept l ls p (Follows (documents old) (ops_of old) s h.list (l ∷ ls) p) (P (documents mid) mid.plan) (ending (ops_of old) s h.list (l ∷ ls)) (end mid.plan) None
+        (ap (option_map (before None)) (ap end kept.plan) ∙ choice_ends (documents old) (ops_of old) s h.list l ls p (a_list_among inner) led.2) None refl t r
+        (among_chosen (ops_of old) h.list l inner led.2)
         (λ tells f. follows_choice (documents old) (ops_of old) s h.list l ls p (a_list_among inner) led.2 (held_before old mid kept P f))
         (λ tells f. holds_after old mid kept P (choice_follows (documents old) (ops_of old) s h.list l ls p (a_list_among inner) led.2 f))
-        (subst (λ (x : Listing). GivesTrail mid new ls (Follows (documents mid) (ops_of mid) s x ls p) t) same g)
+        (subst (λ (x : Listing). GivesTrail mid new ls p (Follows (documents mid) (ops_of mid) s x ls p) (ending (ops_of mid) s x ls) t) same g)
 
     -- a level that chose a tree, and those behind it
     pub tree_ahead : (n index : ℕ) (led : IsLed old mid places from l.tuple (choice (ops_of old) h.list l) (tree_led n index))
-        → GivesTrail mid new ls (TreeThere (documents mid) mid.plan (stand_of places from.here.now) (piece_at (ops_of mid) n index) ls p) t
-        → GoesBefore None t r → GivesTrail old new (l ∷ ls) (Follows (documents old) (ops_of old) (stand_of places from.here.now) h.list (l ∷ ls) p) r
+        → GivesTrail mid new ls p (TreeThere (documents mid) mid.plan (stand_of places from.here.now) (piece_at (ops_of mid) n index) ls p)
+        (tree_ends mid.plan (stand_of places from.here.now) (piece_at (ops_of mid) n index) ls) t
+        → GoesBefore None t r → FromHere r
     tree_ahead n index led =
         let s = stand_of places from.here.now in
         let x = piece_at (ops_of old) n index in
         let P : Documents → Plan → Type 0 = λ d q. TreeThere d q s (piece_at (plan_value q).ops n index) ls p in
-        trail_before old mid new kept l ls (Follows (documents old) (ops_of old) s h.list (l ∷ ls) p) (P (documents mid) mid.plan) None t r (tree_chosen (ops_of old) h.list l x led.2).1
+        let end : Plan → Option Ending = λ q. tree_ends q s (piece_at (plan_value q).ops n index) ls in
+        trail_before old mid new kept l ls p (Follows (documents old) (ops_of old) s h.list (l ∷ ls) p) (P (documents mid) mid.plan) (ending (ops_of old) s h.list (l ∷ ls)) (end mid.plan) None
+        (ap (option_map (before None)) (ap end kept.plan) ∙ choice_ends (documents old) (ops_of old) s h.list l ls p (a_tree x) led.2) None refl t r
+        (tree_chosen (ops_of old) h.list l x led.2).1
         (λ tells f. follows_choice (documents old) (ops_of old) s h.list l ls p (a_tree x) led.2 (held_before old mid kept P f))
         (λ tells f. holds_after old mid kept P (choice_follows (documents old) (ops_of old) s h.list l ls p (a_tree x) led.2 f))
 
     -- a level that chose a member, and those behind it
     pub member_ahead : (n : ℕ) (there : Evidence) (led : IsLed old mid places from l.tuple (choice (ops_of old) h.list l) (member_led n there)) → KeepsBench mid new
-        → GivesTrail mid new ls (TreeThere (documents mid) mid.plan (stand_of l.tuple there) (piece_at (ops_of mid) n 0) ls p) t
-        → GoesBefore (Some there) t r → GivesTrail old new (l ∷ ls) (Follows (documents old) (ops_of old) (stand_of places from.here.now) h.list (l ∷ ls) p) r
+        → GivesTrail mid new ls p (TreeThere (documents mid) mid.plan (stand_of l.tuple there) (piece_at (ops_of mid) n 0) ls p)
+        (tree_ends mid.plan (stand_of l.tuple there) (piece_at (ops_of mid) n 0) ls) t
+        → GoesBefore (Some there) t r → FromHere r
     member_ahead n there led kept' =
         let s = stand_of places from.here.now in
         let x = piece_of (ops_of old) n in
@@ -108,7 +125,12 @@ module _ (old mid : BenchState) (kept : KeepsBench old mid) (places : List (List
         let at : ℕ → Stand = λ i. record { op = i; places = l.tuple } in
         let P : Documents → Plan → Type 0 = λ d q. TreeThere d q (at there.op) (piece_at (plan_value q).ops n 0) ls p in
         let Q : ℕ → Type 0 = λ i. TreeThere (documents old) old.plan (at i) x ls p in
-        trail_before old mid new kept l ls (Follows (documents old) (ops_of old) s h.list (l ∷ ls) p) (P (documents mid) mid.plan) (Some there) t r (spotted_on mid new kept' l.tuple there led.2.1)
+        let end : Plan → Option Ending = λ q. tree_ends q (at there.op) (piece_at (plan_value q).ops n 0) ls in
+        trail_before old mid new kept l ls p (Follows (documents old) (ops_of old) s h.list (l ∷ ls) p) (P (documents mid) mid.plan) (ending (ops_of old) s h.list (l ∷ ls)) (end mid.plan) (Some input)
+        (ap (option_map (before (Some input))) (ap end kept.plan ∙ ap (λ (i : ℕ). tree_ends old.plan (at i) x ls) (member_op n there led))
+        ∙ choice_ends (documents old) (ops_of old) s h.list l ls p (a_member input keys x) led.1)
+        (Some there) (ap (λ (i : ℕ). Some i) (member_op n there led)) t r
+        (spotted_on mid new kept' l.tuple there led.2.1)
         (λ tells f. follows_choice (documents old) (ops_of old) s h.list l ls p (a_member input keys x) led.1 (led.3 tells, subst Q (member_op n there led) (held_before old mid kept P f)))
         (λ tells f. holds_after old mid kept P (subst Q (sym (member_op n there led)) (choice_follows (documents old) (ops_of old) s h.list l ls p (a_member input keys x) led.1 f).1))
 
@@ -121,8 +143,10 @@ piece_list st places tree h n scope (Some list) by = record { here = h.here; wit
 -- levels behind the tree of a piece are followed from its list
 pub piece_ahead : (st new : BenchState) (places : List (List ℕ)) (tree : TreeAt) → IsTreeAt st places tree → (n : ℕ) → InScope (ops_of st) (input_at (ops_of st) tree.op) n
     → IsListBy (ops_of st) (list_in (ops_of st) (piece_at (ops_of st) tree.op tree.index)) (Some n) → (levels : List LevelValue) (p : List ℕ) (r : Result (Option Trail) WalkFault) → (levels ≡ [] → ⊥)
-    → ((h' : IsListIn st places (record { op = n; here = tree.here })) → IfOk r (GivesTrail st new levels (Follows (documents st) (ops_of st) (stand_of places tree.here.now) h'.list levels p)))
-    → IfOk r (GivesTrail st new levels (TreeThere (documents st) st.plan (stand_of places tree.here.now) (piece_at (ops_of st) tree.op tree.index) levels p))
+    → ((h' : IsListIn st places (record { op = n; here = tree.here }))
+    → IfOk r (GivesTrail st new levels p (Follows (documents st) (ops_of st) (stand_of places tree.here.now) h'.list levels p) (ending (ops_of st) (stand_of places tree.here.now) h'.list levels)))
+    → IfOk r (GivesTrail st new levels p (TreeThere (documents st) st.plan (stand_of places tree.here.now) (piece_at (ops_of st) tree.op tree.index) levels p)
+    (tree_ends st.plan (stand_of places tree.here.now) (piece_at (ops_of st) tree.op tree.index) levels))
 piece_ahead st new places tree h n scope by levels p (Err e) some f = tt
 piece_ahead st new places tree h n scope by [] p (Ok t) some f = absurd (some refl)
 piece_ahead st new places tree h n scope by (l ∷ ls) p (Ok t) some f = by_list (list_in (ops_of st) (piece_at (ops_of st) tree.op tree.index)) by
@@ -131,8 +155,9 @@ piece_ahead st new places tree h n scope by (l ∷ ls) p (Ok t) some f = by_list
     s = stand_of places tree.here.now
 
     by_list : (o : Option Listing) → IsListBy (ops_of st) o (Some n)
-        → GivesTrail st new (l ∷ ls) (MatchOption o ⊥ (λ inner. Follows (documents st) (ops_of st) s inner (l ∷ ls) p)) t
+        → GivesTrail st new (l ∷ ls) p (MatchOption o ⊥ (λ inner. Follows (documents st) (ops_of st) s inner (l ∷ ls) p)) (option_and_then (λ inner. ending (ops_of st) s inner (l ∷ ls)) o) t
     by_list None b = none_some n (sym b)
     by_list (Some list) b =
         (let inner = piece_list st places tree h n scope (Some list) b in
-        subst (λ (x : Listing). GivesTrail st new (l ∷ ls) (Follows (documents st) (ops_of st) s x (l ∷ ls) p) t) (some_is inner.list list (sym inner.is_list ∙ b.1)) (f inner))
+        subst (λ (x : Listing). GivesTrail st new (l ∷ ls) p (Follows (documents st) (ops_of st) s x (l ∷ ls) p) (ending (ops_of st) s x (l ∷ ls)) t)
+        (some_is inner.list list (sym inner.is_list ∙ b.1)) (f inner))

@@ -7,6 +7,7 @@ pub mod Groups
 pub mod LeadsFollowed
 pub mod LevelsAhead
 pub mod Makes
+pub mod MarkLabels
 pub mod Nodes
 pub mod OnWay
 pub mod ReachedRows

@@ -2,6 +2,7 @@
 use Rattle.std.proofs.Common.{◌≡◌, inl, inr, ℕ, suc, ◌<◌, true, false, cond, List, [], ◌∷◌, Option, Some, refl, sym, ap, subst, ◌∙◌, arith, length}
 use Rattle.std.specs.Prelude.{Bool, slice_get}
 use Rattle.std.specs.List.{filter}
+use Rattle.std.specs.Str.{bytes_eq}
 use Rattle.std.proofs.lemmas.Bool.{and_parts}
 use Rattle.std.proofs.lemmas.Slice.Eq.{bytes_eq-Decides}
 use Rattle.mix_base.proofs.Choices.{some_is, none_some}
@@ -146,9 +147,16 @@ module _ (p : PlanValue) (valid : IsValid p) (typed : IsTyped p.ops) (uses : Use
 
   module _ (s : Stand) (row : TolledRow) (at : IsAt s row) where
     -- the node that a piece is, is that of the nodes which the places give
-    node_there : (v : ℕ) → kinds p.ops s.op v ≡ Some a_node → IsToldPiece p valid typed docs s.op (var_piece v) → (node : Node)
+    pub node_there : (v : ℕ) → kinds p.ops s.op v ≡ Some a_node → IsToldPiece p valid typed docs s.op (var_piece v) → (node : Node)
         → tolled_value row v ≡ of_source node → nodes_at docs p.ops s v ≡ node
     node_there v k told node is = node_is docs (nodes_at docs p.ops s) (row_node row) v [] (told k (nodes_at docs p.ops s) (row_node row) at.of) ∙ ap source_node is
+
+    -- the label of a node that a piece shows is that of the node which the places give
+    pub label_given : (v : ℕ) → IsToldPiece p valid typed docs s.op (label_piece v) → label_at docs (nodes_at docs p.ops s v) ≡ label_at docs (row_node row v)
+    label_given v told =
+        let a : List ℕ = label_at docs (nodes_at docs p.ops s v) in
+        let b : List ℕ = label_at docs (row_node row v) in
+        (bytes_eq-Decides a b).0 (and_parts (bytes_eq a b) true (told (nodes_at docs p.ops s) (row_node row) at.of)).0
 
     -- below a piece that is a single tree, places are as they are below its value
     pub under_is : (x : Piece) → IsSinglePiece (kinds p.ops s.op) x → IsToldPiece p valid typed docs s.op x → (q : List ℕ)

@@ -9,7 +9,7 @@ use Rattle.mix_base.specs.Ascents.{Among}
 use Rattle.mix_tree.specs.Keys.{has_var, stands}
 use Rattle.mix_tree.specs.Nodes.{Documents}
 use Rattle.mix_tree.specs.declared.var.Key.{Key}
-use Rattle.mix_tree.specs.declared.var.Key.TheVariants.{Node as node_key}
+use Rattle.mix_tree.specs.declared.var.Key.TheVariants.{Node as node_key, LabelOf as label_key}
 use Rattle.plan_core.specs.declared.plan.Piece.{Piece}
 use Rattle.plan_core.specs.declared.plan.Piece.TheVariants.{Var as var_piece, LabelOf as label_piece, Text as text_piece}
 use Rattle.plan_core.specs.Fronts.{covers}
@@ -124,10 +124,10 @@ module _ (p : PlanValue) (valid : IsValid p) (typed : IsTyped p.ops) (docs : Doc
 
   -- LISTS THAT ARE TOLD
 
-  -- the keys that operator n holds tell the node that a piece is, if it is one
+  -- the keys that operator n holds tell the node that a piece is, if it is one, and its label, if it is one
   abbrev pub IsToldPiece : ℕ → Piece → Type 0
   IsToldPiece n (var_piece v) = kinds p.ops n v ≡ Some a_node → Tell docs (held p.ops n) (node_key v ∷ [])
-  IsToldPiece n (label_piece v) = Unit {0}
+  IsToldPiece n (label_piece v) = Tell docs (held p.ops n) (label_key v ∷ [])
   IsToldPiece n (text_piece label) = Unit {0}
 
   -- a group's input, which isn't the last operator, holds keys that tell the group's keys and the node that its piece is
@@ -149,7 +149,7 @@ module _ (p : PlanValue) (valid : IsValid p) (typed : IsTyped p.ops) (docs : Doc
       let is : kinds p.ops i v ≡ Some a_node = bound.1 ∙ ap (λ (x : Kind). Some x) k in
       let own : covers (held p.ops i) (node_key v ∷ []) ≡ true = sym (ap (λ (o : Option Kind). covers (held p.ops i) (kind_uses v o)) is) ∙ c in
       covered_same docs (held p.ops i) (node_key v ∷ []) a b own (tell a b h))
-  piece_told n i scope tell (label_piece v) bound c = tt
+  piece_told n i scope tell (label_piece v) bound c = λ a b h. covered_same docs (held p.ops i) (label_key v ∷ []) a b c (tell a b h)
   piece_told n i scope tell (text_piece label) bound c = tt
 
   -- pieces are told as each of them is

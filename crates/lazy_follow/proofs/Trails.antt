@@ -1,6 +1,6 @@
 -- Levels followed one after another.
 use Rattle.std.proofs.Common.{◌≡◌, ◌∙◌, ◌<◌, ℕ, List, [], ◌∷◌, Option, Some, None, refl, sym, ap, subst, length}
-use Rattle.std.specs.Prelude.{Bool, IsTrue, true, false, cond, ◌==◌, MatchOption, slice_get}
+use Rattle.std.specs.Prelude.{Bool, IsTrue, true, false, cond, ◌==◌, MatchOption, option_map, slice_get}
 use Rattle.mix_base.proofs.Choices.{none_some}
 use Rattle.mix_tree.specs.Nodes.{Documents}
 use Rattle.node_text.specs.Node.{LevelValue}
@@ -20,9 +20,10 @@ use Rattle.lazy_follow.specs.declared.following.Trail.{Trail}
 use Rattle.lazy_follow.specs.declared.members.Group.{Group}
 use Rattle.lazy_follow.specs.Choosing.{HasPiece, MakesPieces}
 use Rattle.lazy_follow.specs.Ends.{IsTreeAt, stand_of}
-use Rattle.lazy_follow.specs.Following.{Choice, nothing, a_tree, a_member, a_list_among, without_places, value_choice, piece_choice, choice, Stand, FollowsFrom, Follows}
+use Rattle.lazy_follow.specs.Following.{Choice, nothing, a_tree, a_member, a_list_among, without_places, value_choice, piece_choice, choice, Stand, FollowsFrom, Follows, Ending, before, choice_ending, ending}
 use Rattle.lazy_follow.specs.Levels.{IsListIn, LeadsNowhere}
-use Rattle.lazy_follow.specs.Marks.{AreMembers, IsShown}
+use Rattle.lazy_follow.specs.declared.mark.Shown.{Shown}
+use Rattle.lazy_follow.specs.Marks.{AreMembers, IsShown, member_ops, HasEnd}
 use Rattle.lazy_follow.specs.Scope.{InScope}
 use Rattle.lazy_follow.specs.Spotted.{IsSpotted}
 use Rattle.lazy_follow.specs.Trails.{GivesTrail, GoesBefore}
@@ -154,6 +155,10 @@ module _ (docs : Documents) (ops : List Operator) (s : Stand) (list : Listing) (
   pub follows_choice : (c : Choice) → choice ops list l ≡ c → FollowsFrom docs ops Rest s l.tuple c ls p → Follows docs ops s list (l ∷ ls) p
   follows_choice c e h = subst (λ (x : Choice). FollowsFrom docs ops Rest s l.tuple x ls p) (sym e) h
 
+  -- a level and those behind it end where what it chooses does
+  pub choice_ends : (c : Choice) → choice ops list l ≡ c → choice_ending ops (λ there inner. ending ops there inner ls) s l.tuple c ls ≡ ending ops s list (l ∷ ls)
+  choice_ends c e = sym (ap (λ (x : Choice). choice_ending ops (λ there inner. ending ops there inner ls) s l.tuple x ls) e)
+
   -- and from what it chooses as the level and those behind it
   pub choice_follows : (c : Choice) → choice ops list l ≡ c → Follows docs ops s list (l ∷ ls) p → FollowsFrom docs ops Rest s l.tuple c ls p
   choice_follows c e h = subst (λ (x : Choice). FollowsFrom docs ops Rest s l.tuple x ls p) e h
@@ -176,16 +181,25 @@ nowhere st places from list l ls p = by_choice (choice (ops_of st) list l)
 abbrev pub IsMemberThere : BenchState → LevelValue → Option Evidence → Type 0
 IsMemberThere st l m = MatchOption m (l.tuple ≡ []) (IsSpotted st l.tuple)
 
+-- with one level more before them, levels end where they did
+end_before : (st : BenchState) (D : Option Ending) (p : List ℕ) (m : Option Evidence) (input : Option ℕ) (members more : List (Option Evidence)) (shown : Shown)
+    → option_map (λ (e : Evidence). e.op) m ≡ input → more ≡ m ∷ members → HasEnd st D p members shown → HasEnd st (option_map (before input) D) p more shown
+end_before st None p m input members more shown o e h = h
+end_before st (Some d) p m input members more shown o e h = record { shows = h.shows; inputs = ap member_ops e ∙ ap (λ (x : Option ℕ). x ∷ member_ops members) o ∙ ap (λ (xs : List (Option ℕ)). input ∷ xs) h.inputs }
+
 -- a trail with one level more is one of that level and those behind it
-pub trail_before : (old mid new : BenchState) → KeepsBench old mid → (l : LevelValue) (ls : List LevelValue) (F G : Type 0) (m : Option Evidence) (t r : Option Trail)
-    → IsMemberThere new l m → (IsTrue (told old) → G → F) → (IsTrue (told old) → F → G) → GivesTrail mid new ls G t → GoesBefore m t r → GivesTrail old new (l ∷ ls) F r
-trail_before old mid new kept l ls F G m None None h to from g b = λ tells f. g (kept.told ∙ tells) (from tells f)
-trail_before old mid new kept l ls F G m None (Some y) h to from g b = none_some y (sym b)
-trail_before old mid new kept l ls F G m (Some x) None h to from g b = absurd b
-trail_before old mid new kept l ls F G m (Some x) (Some y) h to from g b = (
+pub trail_before : (old mid new : BenchState) → KeepsBench old mid → (l : LevelValue) (ls : List LevelValue) (p : List ℕ) (F G : Type 0) (E D : Option Ending) (input : Option ℕ)
+    → option_map (before input) D ≡ E → (m : Option Evidence) → option_map (λ (e : Evidence). e.op) m ≡ input → (t r : Option Trail)
+    → IsMemberThere new l m → (IsTrue (told old) → G → F) → (IsTrue (told old) → F → G) → GivesTrail mid new ls p G D t → GoesBefore m t r → GivesTrail old new (l ∷ ls) p F E r
+trail_before old mid new kept l ls p F G E D input same m o None None h to from g b = λ tells f. g (kept.told ∙ tells) (from tells f)
+trail_before old mid new kept l ls p F G E D input same m o None (Some y) h to from g b = none_some y (sym b)
+trail_before old mid new kept l ls p F G E D input same m o (Some x) None h to from g b = absurd b
+trail_before old mid new kept l ls p F G E D input same m o (Some x) (Some y) h to from g b = (
   record {
     members = subst (AreMembers new (l ∷ ls)) (sym b.0) (h, g.0.members);
     shown = subst (IsShown new) (sym b.1) g.0.shown;
   },
   λ tells. to tells (g.1 (kept.told ∙ tells)),
+  subst (λ (e : Option Ending). HasEnd new e p y.members.items y.shown) same
+      (end_before new D p m input x.members.items y.members.items y.shown o b.0 (subst (HasEnd new D p x.members.items) (sym b.1) g.2)),
 )

@@ -1,5 +1,5 @@
 -- What the tree of a piece shows, and the end of levels.
-use Rattle.std.specs.Prelude.{◌≡◌, ◌<◌, ◌==◌, ℕ, Bool, false, IsTrue, List, Option, Some, None, MatchOption, length}
+use Rattle.std.specs.Prelude.{◌≡◌, ◌<◌, ◌==◌, ℕ, Bool, false, IsTrue, List, [], Option, Some, None, MatchOption, length}
 use Rattle.mix_tree.specs.Nodes.{Node}
 use Rattle.plan_core.specs.ByNumber.{op_at}
 use Rattle.plan_core.specs.Plans.{Operator, over}
@@ -15,8 +15,8 @@ use Rattle.lazy_follow.specs.declared.evidence.Evidence.{Evidence}
 use Rattle.lazy_follow.specs.declared.mark.Shown.{Shown}
 use Rattle.lazy_follow.specs.declared.mark.Shown.TheVariants.{Whole, Leaf, Element, Text}
 use Rattle.lazy_follow.specs.Choosing.{HasPiece}
-use Rattle.lazy_follow.specs.Following.{Stand, IsUnder}
-use Rattle.lazy_follow.specs.Marks.{IsShown}
+use Rattle.lazy_follow.specs.Following.{Stand, Ending, IsUnder}
+use Rattle.lazy_follow.specs.Marks.{IsShown, ShowsBelow}
 use Rattle.lazy_follow.specs.Scope.{InScope}
 use Rattle.lazy_follow.specs.Spotted.{IsSpotted, StandsFor}
 
@@ -43,14 +43,19 @@ Shows st nodes piece (Whole x) = (v : ℕ) × (piece ≡ var_piece v) × (elemen
 Shows st nodes piece (Leaf x) = (v : ℕ) × (piece ≡ label_piece v) × StandsFor st (nodes v) x
 Shows st nodes piece (Element n) =
     (v : ℕ) × (u : ℕ) × (piece ≡ var_piece v) × (element_list (maker (ops_of st) v) ≡ Some u) × (n < length (ops_of st)) × (form (op_at (ops_of st) n) ≡ makes_element)
+    × (maker (ops_of st) v ≡ shape_at (ops_of st) n)
 Shows st nodes piece (Text n index) = HasPiece (ops_of st) n index × (piece_at (ops_of st) n index ≡ piece) × IsTrue (is_text piece)
 
 -- where evidence with these places stands
 abbrev pub stand_of : List (List ℕ) → Evidence → Stand
 stand_of places e = record { op = e.op; places = places }
 
+-- the tree of a piece, over a binding that was reached by evidence with these places
+abbrev pub ending_of : BenchState → List (List ℕ) → TreeAt → Ending
+ending_of st places t = record { inputs = []; stand = stand_of places t.here.now; piece = piece_at (ops_of st) t.op t.index }
+
 -- over told sources a place below the tree of a piece isn't there, or it is; what its node shows is there
 abbrev pub GivesEnd : BenchState → BenchState → List (List ℕ) → TreeAt → List ℕ → Option Shown → Type 0
 GivesEnd old new places t p r =
     let under = IsUnder (documents old) (ops_of old) (stand_of places t.here.now) (piece_at (ops_of old) t.op t.index) p in
-    MatchOption r (IsTrue (told old) → under → ⊥) (λ shown. IsShown new shown × (IsTrue (told old) → under))
+    MatchOption r (IsTrue (told old) → under → ⊥) (λ shown. IsShown new shown × (IsTrue (told old) → under) × ShowsBelow new (ending_of old places t) p shown)

@@ -1,5 +1,5 @@
 -- How the text of an identifier is followed, by the evidence that it has: at each level the nodes that its places give, and no binding.
-use Rattle.std.specs.Prelude.{◌≡◌, ◌==◌, ℕ, true, cond, Option, Some, None, MatchOption, List, [], ◌∷◌, slice_get, option_and_then}
+use Rattle.std.specs.Prelude.{◌≡◌, ◌==◌, ℕ, true, cond, Option, Some, None, MatchOption, List, [], ◌∷◌, slice_get, option_and_then, option_map}
 use Rattle.std.specs.List.{last_or}
 use Rattle.mix_tree.specs.Forest.{none, tree}
 use Rattle.mix_tree.specs.Nodes.{Documents, Node, label_at, kids_at}
@@ -118,6 +118,45 @@ module _ (docs : Documents) (ops : List Operator) where
   -- an identifier's text, as what it says, can be followed to the end
   abbrev pub IsFollowed : NodeValue → Type 0
   IsFollowed d = IsFollowedBy d.levels d.inside
+
+-- WHERE LEVELS END
+
+-- where levels end, as the plan says: for each level the operator of whose bindings it chooses a member, if it chooses one; and the tree at their end, by where
+-- the binding was reached over which it is made, and its piece
+pub record Ending : Type 0 where
+  pub inputs : List (Option ℕ)
+  pub stand : Stand
+  pub piece : Piece
+
+-- where levels end with one more before them
+abbrev pub before : Option ℕ → Ending → Ending
+before input e = record { inputs = input ∷ e.inputs; stand = e.stand; piece = e.piece }
+
+module _ (ops : List Operator) where
+  -- where the levels behind a tree end, as is said of the rest: at the tree, where there are none, else in its list
+  abbrev pub tree_ending : (Stand → Listing → Option Ending) → Stand → Piece → List LevelValue → Option Ending
+  tree_ending rest here piece [] = Some (record { inputs = []; stand = here; piece = piece })
+  tree_ending rest here piece (l ∷ ls) = option_and_then (rest here) (list_in ops piece)
+
+  -- where a level that chooses this with its places, and those behind it, end, as is said of the rest
+  abbrev pub choice_ending : (Stand → Listing → Option Ending) → Stand → List (List ℕ) → Choice → List LevelValue → Option Ending
+  choice_ending rest here places nothing ls = None
+  choice_ending rest here places (a_tree piece) ls = option_map (before None) (tree_ending rest here piece ls)
+  choice_ending rest here places (a_member n keys piece) ls = option_map (before (Some n)) (tree_ending rest (record { op = n; places = places }) piece ls)
+  choice_ending rest here places (a_list_among inner) ls = option_map (before None) (rest here (of_pieces inner))
+
+  -- where levels from a list end
+  abbrev pub ending : Stand → Listing → List LevelValue → Option Ending
+  ending here list [] = None
+  ending here list (l ∷ ls) = choice_ending (λ there inner. ending there inner ls) here l.tuple (choice ops list l) ls
+
+  -- where levels end from the outer element on, which stands in the single binding of an operator without evidence
+  abbrev pub outer_ending : ℕ × ℕ → List LevelValue → Option Ending
+  outer_ending o levels = tree_ending (λ there inner. ending there inner levels) (record { op = o.0; places = [] }) (var_piece o.1) levels
+
+  -- where the levels of a text end
+  abbrev pub text_ending : List LevelValue → Option Ending
+  text_ending levels = option_and_then (λ o. outer_ending o levels) (outer_of (last_or None ops))
 
 -- LAW
 

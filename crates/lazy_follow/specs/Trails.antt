@@ -11,9 +11,9 @@ use Rattle.lazy_follow.specs.declared.following.Trail.{Trail}
 use Rattle.lazy_follow.specs.declared.mark.Mark.{Mark}
 use Rattle.lazy_follow.specs.declared.members.Group.{Group}
 use Rattle.lazy_follow.specs.Ends.{stand_of}
-use Rattle.lazy_follow.specs.Following.{Follows, FollowsTree, IsFollowed}
+use Rattle.lazy_follow.specs.Following.{Follows, FollowsTree, IsFollowedBy, IsFollowed, Ending, tree_ending, ending, text_ending}
 use Rattle.lazy_follow.specs.Levels.{IsListIn}
-use Rattle.lazy_follow.specs.Marks.{levels_reach, AreMembers, IsShown, IsMarkOf}
+use Rattle.lazy_follow.specs.Marks.{levels_reach, AreMembers, IsShown, IsMarkOf, HasEnd}
 
 -- how far the levels and the place below reach that are ahead
 abbrev pub ahead_reach : Ahead → ℕ
@@ -24,19 +24,29 @@ pub record IsTrail (st : BenchState) (levels : List LevelValue) (t : Trail) : Ty
   pub members : AreMembers st levels t.members.items
   pub shown : IsShown st t.shown
 
--- over told sources levels and a place below can't be followed, or they can; what was found on the way is there
-abbrev pub GivesTrail : BenchState → BenchState → List LevelValue → Type 0 → Option Trail → Type 0
-GivesTrail old new levels followed r = MatchOption r (IsTrue (told old) → followed → ⊥) (λ t. IsTrail new levels t × (IsTrue (told old) → followed))
+-- over told sources levels and a place below can't be followed, or they can; what was found on the way is there, and they end at it
+abbrev pub GivesTrail : BenchState → BenchState → List LevelValue → List ℕ → Type 0 → Option Ending → Option Trail → Type 0
+GivesTrail old new levels p followed end r =
+    MatchOption r (IsTrue (told old) → followed → ⊥) (λ t. IsTrail new levels t × (IsTrue (told old) → followed) × HasEnd new end p t.members.items t.shown)
 
--- what is ahead can be followed from the list that an operator makes
-abbrev pub FollowsList : (st : BenchState) → (places : List (List ℕ)) → (from : Group) → IsListIn st places from → Ahead → Type 0
-FollowsList st places from h a = Follows (documents st) (ops_of st) (stand_of places from.here.now) h.list a.levels.now a.inside.now
+-- what is found where what is ahead is followed from the list that an operator makes
+abbrev pub GivesFromList : (old new : BenchState) → (places : List (List ℕ)) → (from : Group) → IsListIn old places from → Ahead → Option Trail → Type 0
+GivesFromList old new places from h a r =
+    let s = stand_of places from.here.now in let levels = a.levels.now in let p = a.inside.now in
+    GivesTrail old new levels p (Follows (documents old) (ops_of old) s h.list levels p) (ending (ops_of old) s h.list levels) r
 
--- what is ahead can be followed from the tree of a piece
-abbrev pub FollowsPiece : BenchState → List (List ℕ) → TreeAt → Ahead → Type 0
-FollowsPiece st places t a =
-    FollowsTree (documents st) (ops_of st) (λ there inner. Follows (documents st) (ops_of st) there inner a.levels.now a.inside.now) (stand_of places t.here.now)
-    (piece_at (ops_of st) t.op t.index) a.levels.now a.inside.now
+-- what is found where what is ahead is followed from the tree of a piece
+abbrev pub GivesFromPiece : BenchState → BenchState → List (List ℕ) → TreeAt → Ahead → Option Trail → Type 0
+GivesFromPiece old new places t a r =
+    let s = stand_of places t.here.now in let x = piece_at (ops_of old) t.op t.index in let levels = a.levels.now in let p = a.inside.now in
+    GivesTrail old new levels p (FollowsTree (documents old) (ops_of old) (λ there inner. Follows (documents old) (ops_of old) there inner levels p) s x levels p)
+    (tree_ending (ops_of old) (λ there inner. ending (ops_of old) there inner levels) s x levels) r
+
+-- what is found where what is ahead is followed from the outer element
+abbrev pub GivesFromOuter : BenchState → BenchState → Ahead → Option Trail → Type 0
+GivesFromOuter old new a r =
+    let levels = a.levels.now in let p = a.inside.now in
+    GivesTrail old new levels p (IsFollowedBy (documents old) (ops_of old) levels p) (text_ending (ops_of old) levels) r
 
 -- a trail with one level more in front of it, which leads to a member or to none
 abbrev pub GoesBefore : Option Evidence → Option Trail → Option Trail → Type 0

@@ -5,7 +5,7 @@ ghost use Rattle.lazy_plan.specs.Bench.{state_of, ops_of, IsBenchOf};
 ghost use Rattle.lazy_seek.specs.Seeks.{Sought};
 ghost use Rattle.lazy_follow.specs.Ends.{IsTreeAt};
 ghost use Rattle.lazy_follow.specs.Levels.{IsListIn};
-ghost use Rattle.lazy_follow.specs.Trails.{ahead_reach, GivesTrail, FollowsList, FollowsPiece, GoesBefore};
+ghost use Rattle.lazy_follow.specs.Trails.{ahead_reach, GivesFromList, GivesFromPiece, GoesBefore};
 
 use crate::choosing::list_of_piece;
 use crate::ends::{TreeAt, end};
@@ -58,7 +58,7 @@ pub(crate) fn follow_list<S: Sources>(
     ensures sought { Sought S.view S.came_from (ahead_reach ahead.now) s.old bench.old s.new bench.new }
     ensures cause { HasCause (ops_of (state_of (S.view s.old) bench.old)) (S.view s.old) (S.view s.new) result }
     ensures answer { (places : List (List ℕ)) → let old = state_of (S.view s.old) bench.old in let new = state_of (S.view s.new) bench.new in
-        (h : IsListIn old places from.now) → IfOk result (GivesTrail old new ahead.now.levels.now (FollowsList old places from.now h ahead.now)) }
+        (h : IsListIn old places from.now) → IfOk result (GivesFromList old new places from.now h ahead.now) }
 {
     let Some((level, later)) = ahead.levels.split_first() else {
         return Ok(None);
@@ -107,7 +107,7 @@ fn follow_tree<S: Sources>(
     ensures sought { Sought S.view S.came_from (ahead_reach ahead.now) s.old bench.old s.new bench.new }
     ensures cause { HasCause (ops_of (state_of (S.view s.old) bench.old)) (S.view s.old) (S.view s.new) result }
     ensures answer { (places : List (List ℕ)) → let old = state_of (S.view s.old) bench.old in let new = state_of (S.view s.new) bench.new in
-        IsTreeAt old places tree.now → IfOk result (GivesTrail old new ahead.now.levels.now (FollowsPiece old places tree.now ahead.now)) }
+        IsTreeAt old places tree.now → IfOk result (GivesFromPiece old new places tree.now ahead.now) }
 {
     if ahead.levels.is_empty() {
         let Some(shown) = end(alloc, bench, s, tree, ahead.inside)? else {

@@ -16,7 +16,7 @@ mod way;
 
 pub use agreeing::agrees;
 pub use evidence::Evidence;
-pub use law::{followed_are_named, marks_stay};
+pub use law::{followed_are_named, marks_show, marks_stay};
 pub use levels::{Led, follow_level};
 pub use mark::{Mark, Shown};
 pub use members::{Group, member};

@@ -6,14 +6,14 @@ ghost use Rattle.plan_core.specs.Valid.{Kind, an_element, kinds, IsValid};
 ghost use Rattle.plan_core.specs.declared.plan.Piece.TheVariants.{Var as var_piece};
 ghost use Rattle.plan_evidence.specs.Named.{maker};
 ghost use Rattle.lazy_steps.specs.Steps.{HasCause};
-ghost use Rattle.lazy_plan.specs.Bench.{state_of, ops_of, documents, IsBenchOf};
+ghost use Rattle.lazy_plan.specs.Bench.{state_of, ops_of, IsBenchOf};
 ghost use Rattle.lazy_seek.specs.Seeks.{Sought};
 ghost use Rattle.lazy_follow.specs.Choosing.{IsListBy};
 ghost use Rattle.lazy_follow.specs.Ends.{IsElementBy};
-ghost use Rattle.lazy_follow.specs.Following.{list_in, IsFollowedBy};
+ghost use Rattle.lazy_follow.specs.Following.{list_in};
 ghost use Rattle.lazy_follow.specs.Marks.{text_reach};
 ghost use Rattle.lazy_follow.specs.Scope.{InScope};
-ghost use Rattle.lazy_follow.specs.Trails.{ahead_reach, GivesTrail, GivesMark};
+ghost use Rattle.lazy_follow.specs.Trails.{ahead_reach, GivesFromOuter, GivesMark};
 
 use crate::choosing::list_maker;
 use crate::ends::makes_element;
@@ -72,7 +72,7 @@ fn follow_outer<S: Sources>(
     ensures sought { Sought S.view S.came_from (ahead_reach ahead.now) s.old bench.old s.new bench.new }
     ensures cause { HasCause (ops_of (state_of (S.view s.old) bench.old)) (S.view s.old) (S.view s.new) result }
     ensures answer { let old = state_of (S.view s.old) bench.old in let new = state_of (S.view s.new) bench.new in
-        IfOk result (GivesTrail old new ahead.now.levels.now (IsFollowedBy (documents old) (ops_of old) ahead.now.levels.now ahead.now.inside.now)) }
+        IfOk result (GivesFromOuter old new ahead.now) }
 {
     valid_plans_are_typed();
     let (input, v) = last(bench.plan());

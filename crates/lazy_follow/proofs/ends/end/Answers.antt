@@ -5,7 +5,7 @@ use Rattle.lazy_seek.proofs.Visiting.{sought_within}
 use Rattle.lazy_seek.proofs.Walks.{sought_none}
 use Rattle.lazy_follow.specs.Ends.{Shows, stand_of}
 use Rattle.lazy_follow.specs.Spotted.{nodes_of}
-use Rattle.lazy_follow.proofs.Endings.{bare_under, shown_there}
+use Rattle.lazy_follow.proofs.Endings.{bare_under, bare_shows, shown_there}
 use Rattle.lazy_follow.proofs.ends.end.Goals as goal
 
 -- a list without members is empty
@@ -31,6 +31,7 @@ returns-then-is_empty g c =
           let x = piece_at (ops_of st) t.op t.index in (
             shown_there st (stand_of places t.here.now) x c.args.inside.now c.in-Some.shown shows,
             λ told. (bare_under st (stand_of places t.here.now) x c.args.inside.now c.in-Some.shown c.in_default-shown.not-Whole shows).1 (no_members c.args.inside.now e),
+            bare_shows st (stand_of places t.here.now) x c.args.inside.now c.in-Some.shown c.in_default-shown.not-Whole shows (no_members c.args.inside.now e),
           ));
     }
 

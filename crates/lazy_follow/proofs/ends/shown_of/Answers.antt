@@ -35,7 +35,7 @@ returns-in-Some-element_of c = λ places view at h.
     let piece = sym (c.piece.ensures ∙ ap (λ (q : Plan). piece_at (plan_value q).ops t.op t.index) c.plan.ensures) ∙ c.in-Var.is in
     let by = rw c.in-Some-element_of.is at (subst (λ (q : Plan). IsElementBy (plan_value q).ops c.in-Var.v c.element_of.result) c.plan-in-Var.ensures c.element_of.ensures) in
     let u = element_lists (op_at p.ops c.in-Some-element_of.element) by.2 in
-    (c.in-Var.v, u.0, piece, ap element_list by.1 ∙ u.1, by.0, by.2)
+    (c.in-Var.v, u.0, piece, ap element_list by.1 ∙ u.1, by.0, by.2, by.1)
 
 pub returns-in_default-node_of : goal.returns-in_default-node_of
 returns-in_default-node_of c = λ places view at h.

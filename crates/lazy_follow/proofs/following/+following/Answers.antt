@@ -8,7 +8,7 @@ use Rattle.lazy_seek.specs.Evidenced.{reaches}
 use Rattle.lazy_seek.proofs.Walks.{sought_then}
 use Rattle.lazy_follow.specs.Choosing.{IsListBy}
 use Rattle.lazy_follow.specs.Ends.{stand_of}
-use Rattle.lazy_follow.specs.Following.{Follows, list_in}
+use Rattle.lazy_follow.specs.Following.{Follows, ending, list_in}
 use Rattle.lazy_follow.specs.Scope.{InScope}
 use Rattle.lazy_follow.specs.Trails.{ahead_reach, GivesTrail}
 use Rattle.lazy_follow.proofs.LevelsAhead.{reach_ahead, fewer_ahead, list_led_to, tree_led_to, member_led_to, list_ahead, tree_ahead, member_ahead, piece_list, piece_ahead}
@@ -56,7 +56,8 @@ follow_list-returns-in_ok-before-in-List-clause-answer g t c = λ places h.
     let d = state_of (g.S.Sources.view c.follow_list.new.s) c.follow_list.new.bench in
     let led = rw (c.in-Some-2.is, c.in-List.is) at (c.in_ok-led.ensures.answer places h) in
     let to = list_led_to a b c.follow_level.ensures.sought.ran.kept places c.args.from.now h c.in-Some.level.now c.in-List.op led in
-    subst (λ (x : List LevelValue). GivesTrail a d x (Follows (documents a) (ops_of a) (stand_of places c.args.from.now.here.now) h.list x c.args.ahead.now.inside.now) c.in_ok-before-in-List.field-0)
+    subst (λ (x : List LevelValue). GivesTrail a d x c.args.ahead.now.inside.now (Follows (documents a) (ops_of a) (stand_of places c.args.from.now.here.now) h.list x c.args.ahead.now.inside.now)
+    (ending (ops_of a) (stand_of places c.args.from.now.here.now) h.list x) c.in_ok-before-in-List.field-0)
     (sym c.in-Some.ensures.cases.0)
     (list_ahead a b c.follow_level.ensures.sought.ran.kept places c.args.from.now h c.in-Some.level.now c.in-Some.later.now c.args.ahead.now.inside.now d c.in_ok-trail-in-List.trail c.in_ok-before-in-List.field-0 c.in-List.op led to
     (c.in_ok-trail-in-List.ensures.answer places to) c.in_ok-before-in-List.ensures)
@@ -96,7 +97,8 @@ follow_list-returns-in_ok-before-in-Tree-clause-answer g t c = λ places h.
     let d = state_of (g.S.Sources.view c.follow_tree.new.s) c.follow_tree.new.bench in
     let led = rw (c.in-Some-2.is, c.in-Tree.is) at (c.in_ok-led.ensures.answer places h) in
     let to = tree_led_to a b c.follow_level.ensures.sought.ran.kept places c.args.from.now h c.in-Some.level.now c.in-Tree.op c.in-Tree.index led in
-    subst (λ (x : List LevelValue). GivesTrail a d x (Follows (documents a) (ops_of a) (stand_of places c.args.from.now.here.now) h.list x c.args.ahead.now.inside.now) c.in_ok-before-in-Tree.field-0)
+    subst (λ (x : List LevelValue). GivesTrail a d x c.args.ahead.now.inside.now (Follows (documents a) (ops_of a) (stand_of places c.args.from.now.here.now) h.list x c.args.ahead.now.inside.now)
+    (ending (ops_of a) (stand_of places c.args.from.now.here.now) h.list x) c.in_ok-before-in-Tree.field-0)
     (sym c.in-Some.ensures.cases.0)
     (tree_ahead a b c.follow_level.ensures.sought.ran.kept places c.args.from.now h c.in-Some.level.now c.in-Some.later.now c.args.ahead.now.inside.now d c.in_ok-trail-in-Tree.trail c.in_ok-before-in-Tree.field-0 c.in-Tree.op c.in-Tree.index led
     (c.in_ok-trail-in-Tree.ensures.answer places to) c.in_ok-before-in-Tree.ensures)
@@ -136,7 +138,8 @@ follow_list-returns-in_ok-before-in-Member-clause-answer g t c = λ places h.
     let d = state_of (g.S.Sources.view c.follow_tree-in-Member.new.s) c.follow_tree-in-Member.new.bench in
     let led = rw (c.in-Some-2.is, c.in-Member.is) at (c.in_ok-led.ensures.answer places h) in
     let to = member_led_to a b c.follow_level.ensures.sought.ran.kept places c.args.from.now h c.in-Some.level.now c.requires.bench.valid c.in-Member.op c.in-Member.there led _ refl refl refl in
-    subst (λ (x : List LevelValue). GivesTrail a d x (Follows (documents a) (ops_of a) (stand_of places c.args.from.now.here.now) h.list x c.args.ahead.now.inside.now) c.in_ok-before-in-Member.field-0)
+    subst (λ (x : List LevelValue). GivesTrail a d x c.args.ahead.now.inside.now (Follows (documents a) (ops_of a) (stand_of places c.args.from.now.here.now) h.list x c.args.ahead.now.inside.now)
+    (ending (ops_of a) (stand_of places c.args.from.now.here.now) h.list x) c.in_ok-before-in-Member.field-0)
     (sym c.in-Some.ensures.cases.0)
     (member_ahead a b c.follow_level.ensures.sought.ran.kept places c.args.from.now h c.in-Some.level.now c.in-Some.later.now c.args.ahead.now.inside.now d c.in_ok-trail-in-Member.trail c.in_ok-before-in-Member.field-0 c.in-Member.op c.in-Member.there led c.follow_tree-in-Member.ensures.sought.ran.kept
     (c.in_ok-trail-in-Member.ensures.answer c.in-Some.level.now.tuple to) c.in_ok-before-in-Member.ensures)
