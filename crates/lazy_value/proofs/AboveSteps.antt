@@ -31,14 +31,13 @@ use Rattle.lazy_plan.specs.Bench.{BenchState, ops_of, documents, events_of, told
 use Rattle.lazy_value.specs.Above.{rests_above, rests_below, rests_with, top_above, top_below, top_with, HasTop, IsItemAt, IsInsideAt, IsLedTo}
 use Rattle.lazy_site.specs.Ids.{here, head_trees, element_trees, rest_trees, IsRest, IsSite}
 use Rattle.lazy_site.specs.Levels.{HasList, IsOpen, of_root, of_member}
-use Rattle.lazy_site.specs.Origins.{IsOriginOf, IsTreeOfPiece}
+use Rattle.lazy_site.specs.Origins.{IsTreeOf, IsTreeOfPiece}
 use Rattle.lazy_site.specs.Standing.{remains, IsHolder, hand_op, hand_at, SiteStandsIn, StandsInSource, ChildStandsIn, SiteChildIn, SiteNextIn, IsInOuter}
 use Rattle.lazy_value.specs.Places.{IsNode, IsAt}
 use Rattle.lazy_site.specs.Steps.{StandsFor}
 use Rattle.lazy_site.specs.declared.sites.Head.{Head}
 use Rattle.lazy_site.specs.declared.sites.Head.TheVariants.{Whole, Built, Leaf, Text}
 use Rattle.lazy_value.specs.declared.ids.NodeId.{NodeId}
-use Rattle.lazy_site.specs.declared.sites.Origin.TheVariants.{Element as element_origin}
 use Rattle.lazy_site.specs.declared.sites.Rest.{Rest}
 use Rattle.lazy_site.specs.declared.sites.Site.{Site}
 use Rattle.lazy_site.specs.declared.sites.Site.TheVariants.{Root, Inside, Item}
@@ -231,7 +230,7 @@ inside_moved st s w above top p i more some q e (Inside u z) c =
 
 -- a node that is an element is the tree of a variable
 built_var : (st : BenchState) (n : ℕ) (c : Position) (piece : Piece) (op : ℕ) (at : Position) → IsTreeOfPiece st n c piece (Built op at)
-    → (v : ℕ) × (piece ≡ var_piece v) × IsOriginOf st n c v (element_origin op at)
+    → (v : ℕ) × (piece ≡ var_piece v) × IsTreeOf st n c v (Built op at)
 built_var st n c (var_piece v) op at h = (v, refl, h)
 built_var st n c (label_piece v) op at h = absurd h
 built_var st n c (text_piece label) op at h = absurd h
