@@ -83,7 +83,7 @@ module _ (st : BenchState) (valid : IsValid (plan_value st.plan)) (typed : IsTyp
 
   module _ (n : ℕ) (c : Position) (h : IsHolder st n c) (v : ℕ) (list : Listing) (has : HasList st n v list) where
     -- the list of the variable, as one of a binding of the operator
-    list_in : IsListIn (documents st) (ops_of st) (binding_at st n c) v list
+    pub list_in : IsListIn (documents st) (ops_of st) (binding_at st n c) v list
     list_in = (let a = h.among y in record { op = n; within = h.within; index = a.0; binding = a.1; kind = has.0; listing = has.1 })
 
     -- what the list uses is bound
@@ -148,7 +148,7 @@ module _ (st : BenchState) (valid : IsValid (plan_value st.plan)) (typed : IsTyp
         member_told (input_at (ops_of st) op) (keys_of (op_at (ops_of st) op)) (piece_of (ops_of st) op) (group_ahead st op first at) (remains st up) at i.1.cursor (own_piece s.stands)
 
     -- the level of a node leads from its list to it
-    hand_enters : (head : Head) (r : Rest) → IsRest st r → (s : IsStanding st n c list head r) → (j : ℕ) → IsIndex (documents st) (binding_at st n c) v (remains st r) j
+    pub hand_enters : (head : Head) (r : Rest) → IsRest st r → (s : IsStanding st n c list head r) → (j : ℕ) → IsIndex (documents st) (binding_at st n c) v (remains st r) j
         → Enters (documents st) (ops_of st) (reached_at st n c) list (levels_of (tuple_at st r) (remains st r)) j (reached_at st (hand_op st n r) (hand_at c r)) s.piece
     hand_enters head r i s j index =
         remains_lead (plan_value st.plan) valid (documents st) (reached_at st n c) (reached_at st (hand_op st n r) (hand_at c r)) v list list_in (remains st r) s.piece s.stands (tuple_at st r) (hand_told head r i s) j index

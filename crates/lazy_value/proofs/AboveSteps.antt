@@ -183,7 +183,7 @@ module _ (st : BenchState) (valid : IsValid (plan_value st.plan)) (typed : IsTyp
       (let a = ap count_trees kids in omega (arith, number, a)) top (0 ∷ []) refl
 
 -- the next place after one is the same up to its last index
-next_place-push : (p : List ℕ) (k : ℕ) → next_place (p ++ k ∷ []) ≡ Some (p ++ (k + 1) ∷ [])
+pub next_place-push : (p : List ℕ) (k : ℕ) → next_place (p ++ k ∷ []) ≡ Some (p ++ (k + 1) ∷ [])
 next_place-push [] k = refl
 next_place-push (x ∷ []) k = refl
 next_place-push (x ∷ y ∷ p) k = ap (option_map (λ (q : List ℕ). x ∷ q)) (next_place-push (y ∷ p) k)

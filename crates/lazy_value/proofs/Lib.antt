@@ -1,6 +1,9 @@
 pub mod AboveKept
 pub mod AboveSteps
 pub mod Kept
+pub mod LeadsHere
+pub mod Numbers
+pub mod OneWay
 pub mod Placing
 pub mod Pushed
 pub mod Saying
