@@ -3,6 +3,7 @@ pub mod Groups
 pub mod KnownSteps
 pub mod LevelLists
 pub mod Origins
+pub mod ProfilesAre
 pub mod Pushed
 pub mod RunSteps
 pub mod VarDomains

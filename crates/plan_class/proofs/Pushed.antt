@@ -137,7 +137,7 @@ module _ (shapes : List SourceShape) (p : PlanValue) (valid : IsValid p) (typed 
         (λ i l c. ap slot_known (h.waiting i l (let from = used_from i in omega (arith, from, c))))
 
     -- what is pushed is what is known of operator n
-    one_is : shape_known shapes (front_in fronts) (domain_in old.domains) (kept_at old.slots.items) (shape_of op) ≡ one
+    pub one_is : shape_known shapes (front_in fronts) (domain_in old.domains) (kept_at old.slots.items) (shape_of op) ≡ one
     one_is =
         ap (λ (of : ℕ → Domain). shape_known shapes (front_in fronts) of (kept_at old.slots.items) (shape_of op)) (domains_are old.domains known h.domains)
         ∙ shape_known-reads shapes (front_in fronts) (front p.ops) (domain_of known) (kept_at old.slots.items) (known_at known) (shape_of op)

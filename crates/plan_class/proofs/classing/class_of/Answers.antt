@@ -23,5 +23,5 @@ returns c =
     let constant = rw c.deref-2.ensures.value at c.constant.ensures in
     c.class_by.ensures
     ∙ ap class_by constant
-    ∙ ap (λ (of : ℕ → Domain). class_by (all_bounds plan.ops (λ i. lists_of of))) (domains_are c.in_ok-domains.domains known c.in_ok-domains.ensures)
+    ∙ ap (λ (of : ℕ → Domain). class_by (all_bounds plan.ops (λ i. lists_of of))) (domains_are c.in_ok-profiles.profiles.domains known c.in_ok-profiles.ensures.domains)
     ∙ class_is c.args.shapes.now plan c.requires typed known (are_known c.args.shapes.now plan c.requires typed (length plan.ops) whole) none

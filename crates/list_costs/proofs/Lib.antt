@@ -1,0 +1,2 @@
+pub mod ListsKept
+pub mod SaidAlike
