@@ -13,6 +13,7 @@ use Rattle.unsatisfiable_paths.specs.Unsatisfiable.{unsatisfiable_in}
 use Rattle.view_class.specs.Layouts.{layout_in}
 use Rattle.view_class.specs.Lines.{class_line}
 use Rattle.view_class.specs.Reads.{reads_source}
+use Rattle.list_costs.specs.Told.{TellsLists}
 use Rattle.path_words.specs.Told.{path_lines}
 use Rattle.view_report.specs.Sources.{source_lines}
 
@@ -30,10 +31,12 @@ class_words class = class_line class ++ meaning_of class
 abbrev pub paths_said : List Shape → Plan → List ℕ
 paths_said shapes plan = flat_map (path_lines shapes plan) (unsatisfiable_in shapes (plan_value plan).ops)
 
--- lines report a plan over the sources of a catalog: its paths that lead nowhere over documents laid out as the catalog says, its class, and how the
--- sources are read that it reads
+-- lines report a plan over the sources of a catalog: its paths that lead nowhere over documents laid out as the catalog says, its class, what steps in each
+-- list of its answer cost at most by what the class is computed from, and how the sources are read that it reads
 pub record Reports (sources : List SourceSpec) (plan : Plan) (lines : List ℕ) : Type 0 where
   pub shapes : List Shape
   pub laid : shapes_of shapes ≡ layout_in sources
-  pub lines_are : lines ≡ paths_said shapes plan ++ class_words (class_in (layout_in sources) (plan_value plan).ops)
+  pub lists : List ℕ
+  pub costs : TellsLists shapes plan lists
+  pub lines_are : lines ≡ paths_said shapes plan ++ class_words (class_in (layout_in sources) (plan_value plan).ops) ++ lists
       ++ source_lines (reads_source (plan_value plan).ops) sources (length sources)

@@ -1,4 +1,4 @@
-//! What an accepted view comes to, in words: its paths that lead nowhere, its class, and how its sources are read.
+//! What an accepted view comes to, in words: its paths that lead nowhere, its class, what its lists cost, and how its sources are read.
 #![tactic(auto)]
 
 mod class;
