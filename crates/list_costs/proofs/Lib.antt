@@ -1,2 +1,3 @@
 pub mod ListsKept
 pub mod SaidAlike
+pub mod Within

@@ -21,7 +21,7 @@ use Rattle.list_costs.specs.Told.{heading, list_profile, op_said, reason_at, sai
 use Rattle.list_costs.specs.Words.{list_lines}
 
 -- an operator that stands at a number in a program's plan is the plan's operator of that number
-found_at : (ops : List Op) (n : ℕ) (op : Op) → slice_get ops n ≡ Some op → (n < length (map op_of ops)) × (op_at (map op_of ops) n ≡ op_of op)
+pub found_at : (ops : List Op) (n : ℕ) (op : Op) → slice_get ops n ≡ Some op → (n < length (map op_of ops)) × (op_at (map op_of ops) n ≡ op_of op)
 found_at [] n op e = cc
 found_at (o ∷ ops) zero op e = let same : o ≡ op = cc in (omega arith, ap op_of same)
 found_at (o ∷ ops) (suc n) op e = let more = found_at ops n op e in let b = more.0 in (omega (arith, b), more.1)

@@ -1,3 +1,4 @@
+pub mod Law
 pub mod Lists
 pub mod Told
 pub mod Words

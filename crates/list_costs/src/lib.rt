@@ -3,10 +3,12 @@
 
 mod answer_list;
 mod causes;
+mod law;
 mod lists;
 mod nested;
 mod reasons;
 mod told;
 mod words;
 
+pub use law::lists_cost_as_told;
 pub use told::list_words;
