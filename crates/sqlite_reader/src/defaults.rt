@@ -112,8 +112,8 @@ pub fn has_late_columns(schema: &Schema) -> bool {
     false
 }
 
-// Whether a name asks for the number of a row: the key that is it has this name, or no column has.
-fn is_row_number(table: &Table, name: &[u8]) -> bool {
+/// Whether a name asks for the number of a row: the key that is it has this name, or no column has.
+pub fn is_row_number(table: &Table, name: &[u8]) -> bool {
     match table.column_named(name) {
         Some(number) => table.key == Some(number),
         None => true,

@@ -4,11 +4,13 @@
 mod defaults;
 mod fault;
 mod layout;
+mod listing;
 mod opening;
 mod query;
 mod reader;
 mod stamp;
 
 pub use fault::ReadFault;
+pub use listing::{ListedColumn, ListedTable};
 pub use query::Query;
 pub use reader::Reader;

@@ -1,5 +1,6 @@
 // A file that is open for reading, and what is asked of its tables.
 use crate::defaults::{Late, has_late_columns, late_columns, row_number, with_defaults};
+use crate::listing::{ListedTable, tables_of};
 use crate::opening::open_store;
 use crate::query::statement;
 use crate::stamp::{Stamp, open_log, open_plain, real_path, stamp_at};
@@ -174,6 +175,11 @@ impl Reader {
     pub fn is_at(&self, rt: &HostRuntime, alloc: Global, path: &str) -> Result<bool, ReadFault> {
         let real = real_path(rt, path)?;
         Ok(stamp_at(rt, alloc, real.as_str())? == self.stamp)
+    }
+
+    /// The tables that the file's schema has, but for SQLite's own.
+    pub fn tables(&self, alloc: Global) -> Result<Vec<ListedTable>, AllocError> {
+        tables_of(alloc, &self.schema)
     }
 
     /// The rows that are asked: each its key and then its columns, after which its number may stand. They are rows of one state of the

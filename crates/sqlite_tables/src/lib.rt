@@ -1,8 +1,10 @@
-//! Pages of the tables of SQLite files.
+//! Pages of the tables of SQLite files, and which tables these have.
 #![tactic(auto)]
 
 mod cells;
 mod files;
+mod schemas;
 mod tables;
 
+pub use schemas::SqliteSchemas;
 pub use tables::SqliteTables;
