@@ -1,5 +1,5 @@
 -- Levels lead to a node where their numbers and their evidence are the node's.
-use Rattle.std.proofs.Common.{◌≡◌, ◌∙◌, ℕ, zero, suc, ◌<◌, ◌-◌, Bool, true, false, List, [], ◌∷◌, ◌++◌, Option, Some, None, refl, sym, ap, subst, arith, length}
+use Rattle.std.proofs.Common.{◌≡◌, ◌∙◌, ℕ, zero, suc, ◌<◌, ◌-◌, Bool, true, false, List, [], ◌∷◌, ◌++◌, Option, Some, None, refl, sym, ap, subst, arith, length, drop}
 use Rattle.std.specs.Prelude.{slice_get, IsTrue, MatchOption, get_or, cond, ◌==◌, ◌&&◌, ◌||◌}
 use Rattle.std.proofs.lemmas.Bool.Decides.{nat_tests}
 use Rattle.std.proofs.lemmas.List.{map-append, length-map}
@@ -81,6 +81,18 @@ member_spotted st (l ∷ ls) [] h k d w = absurd h
 member_spotted st (l ∷ ls) (None ∷ ms) h zero d w = tt
 member_spotted st (l ∷ ls) (Some e ∷ ms) h zero d w = (l.tuple, h.0)
 member_spotted st (l ∷ ls) (m ∷ ms) h (suc k) d w = member_spotted st ls ms h.1 k d (omega (arith, w))
+
+-- the members behind some are those of the levels behind
+members_drop : (st : BenchState) (k : ℕ) (ls : List LevelValue) (ms : List (Option Evidence)) → AreMembers st ls ms → AreMembers st (drop k ls) (drop k ms)
+members_drop st zero ls ms h = h
+members_drop st (suc k) [] [] h = h
+members_drop st (suc k) [] (m ∷ ms) h = absurd h
+members_drop st (suc k) (l ∷ ls) [] h = absurd h
+members_drop st (suc k) (l ∷ ls) (m ∷ ms) h = members_drop st k ls ms h.1
+
+pub members_behind : (st : BenchState) (k : ℕ) (ls : List LevelValue) (ms : List (Option Evidence)) → AreMembers st ls ms → (behind : List LevelValue) (others : List (Option Evidence)) → behind ≡ drop k ls → others ≡ drop k ms
+    → AreMembers st behind others
+members_behind st k ls ms h behind others e f = subst (λ xs. AreMembers st xs others) (sym e) (subst (AreMembers st (drop k ls)) (sym f) (members_drop st k ls ms h))
 
 -- NODES OF EVIDENCE
 

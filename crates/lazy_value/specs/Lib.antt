@@ -1,4 +1,5 @@
 pub mod Above
+pub mod Finding
 pub mod Kept
 pub mod Leading
 pub mod Mediators
