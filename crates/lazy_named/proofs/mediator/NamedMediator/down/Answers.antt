@@ -1,0 +1,30 @@
+use Rattle.std.proofs.Common.{Some, refl, sym, subst}
+use Rattle.mix_tree.specs.Place.{child_place}
+use Rattle.lazy_named.specs.declared.ids.MarkedText.{MarkedText}
+use Rattle.lazy_named.specs.declared.ids.NamedId.{NamedId}
+use Rattle.lazy_named.specs.Named.{state_of, IsNamedAt, NamesAt}
+use Rattle.lazy_named.proofs.Keeping.{walked_alike, given_place}
+use Rattle.lazy_named.proofs.mediator.NamedMediator.down.Goals as goal
+
+pub returns-in_err-down-in-Walked-clause-walked : goal.returns-in_err-down-in-Walked-clause-walked
+returns-in_err-down-in-Walked-clause-walked g c =
+    walked_alike g.met.S.Sources.keeps c.args.s.now c.down.new.s c.args.self.now (record { mediator = c.down.new.self; found = c.args.self.now.found }) c.requires.mediator c.down.ensures.walked refl
+
+pub returns-in_ok-down-in-Walked-clause-walked : goal.returns-in_ok-down-in-Walked-clause-walked
+returns-in_ok-down-in-Walked-clause-walked g c =
+    walked_alike g.met.S.Sources.keeps c.args.s.now c.down.new.s c.args.self.now (record { mediator = c.down.new.self; found = c.args.self.now.found }) c.requires.mediator c.down.ensures.walked refl
+
+pub returns-in_ok-down-in-Walked-clause-place : goal.returns-in_ok-down-in-Walked-clause-place
+returns-in_ok-down-in-Walked-clause-place g c = λ p at tells.
+    let a = state_of (g.S.Sources.view c.args.s.now) c.args.self.now in
+    let d = state_of (g.S.Sources.view c.down.new.s) (record { mediator = c.down.new.self; found = c.args.self.now.found }) in
+    let here = subst (λ (n : NamedId). IsNamedAt a n p) c.in-Walked.is at in
+    given_place a d (Some (child_place p)) c.in_ok-down-in-Walked.field-0 c.walked.result c.walked.ensures (c.in_ok-down-in-Walked.ensures.place p here tells)
+
+pub returns-in_ok-down_marked-in-Marked-clause-place : goal.returns-in_ok-down_marked-in-Marked-clause-place
+returns-in_ok-down_marked-in-Marked-clause-place g c = λ p at tells.
+    let a = state_of (g.S.Sources.view c.args.s.now) c.args.self.now in
+    let d = state_of (g.S.Sources.view c.down_marked.new.s) c.down_marked.new.self in
+    let there : NamesAt a c.in-Marked.marked.value p = subst (λ (n : NamedId). IsNamedAt a n p) c.in-Marked.is at in
+    let here : NamesAt a c.deref.result.now p = subst (λ (x : MarkedText). NamesAt a x p) (sym c.deref.ensures) there in
+    given_place a d (Some (child_place p)) c.in_ok-down_marked-in-Marked.field-0 c.walked-in-Marked.result c.walked-in-Marked.ensures (c.in_ok-down_marked-in-Marked.ensures.place p here tells)

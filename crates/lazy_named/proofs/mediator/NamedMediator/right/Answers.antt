@@ -1,0 +1,30 @@
+use Rattle.std.proofs.Common.{refl, sym, subst}
+use Rattle.mix_tree.specs.Place.{next_place}
+use Rattle.lazy_named.specs.declared.ids.MarkedText.{MarkedText}
+use Rattle.lazy_named.specs.declared.ids.NamedId.{NamedId}
+use Rattle.lazy_named.specs.Named.{state_of, IsNamedAt, NamesAt}
+use Rattle.lazy_named.proofs.Keeping.{walked_alike, given_place}
+use Rattle.lazy_named.proofs.mediator.NamedMediator.right.Goals as goal
+
+pub returns-in_err-right-in-Walked-clause-walked : goal.returns-in_err-right-in-Walked-clause-walked
+returns-in_err-right-in-Walked-clause-walked g c =
+    walked_alike g.met.S.Sources.keeps c.args.s.now c.right.new.s c.args.self.now (record { mediator = c.right.new.self; found = c.args.self.now.found }) c.requires.mediator c.right.ensures.walked refl
+
+pub returns-in_ok-right-in-Walked-clause-walked : goal.returns-in_ok-right-in-Walked-clause-walked
+returns-in_ok-right-in-Walked-clause-walked g c =
+    walked_alike g.met.S.Sources.keeps c.args.s.now c.right.new.s c.args.self.now (record { mediator = c.right.new.self; found = c.args.self.now.found }) c.requires.mediator c.right.ensures.walked refl
+
+pub returns-in_ok-right-in-Walked-clause-place : goal.returns-in_ok-right-in-Walked-clause-place
+returns-in_ok-right-in-Walked-clause-place g c = λ p at tells.
+    let a = state_of (g.S.Sources.view c.args.s.now) c.args.self.now in
+    let d = state_of (g.S.Sources.view c.right.new.s) (record { mediator = c.right.new.self; found = c.args.self.now.found }) in
+    let here = subst (λ (n : NamedId). IsNamedAt a n p) c.in-Walked.is at in
+    given_place a d (next_place p) c.in_ok-right-in-Walked.field-0 c.walked.result c.walked.ensures (c.in_ok-right-in-Walked.ensures.place p here tells)
+
+pub returns-in_ok-right_marked-in-Marked-clause-place : goal.returns-in_ok-right_marked-in-Marked-clause-place
+returns-in_ok-right_marked-in-Marked-clause-place g c = λ p at tells.
+    let a = state_of (g.S.Sources.view c.args.s.now) c.args.self.now in
+    let d = state_of (g.S.Sources.view c.right_marked.new.s) c.right_marked.new.self in
+    let there : NamesAt a c.in-Marked.marked.value p = subst (λ (n : NamedId). IsNamedAt a n p) c.in-Marked.is at in
+    let here : NamesAt a c.deref.result.now p = subst (λ (x : MarkedText). NamesAt a x p) (sym c.deref.ensures) there in
+    given_place a d (next_place p) c.in_ok-right_marked-in-Marked.field-0 c.walked-in-Marked.result c.walked-in-Marked.ensures (c.in_ok-right_marked-in-Marked.ensures.place p here tells)
