@@ -1,5 +1,5 @@
 -- How a talk is held, or refused.
-use Rattle.std.proofs.Common.{◌≡◌, inl, inr, ℕ, Bool, List, Result, Ok, Err, refl, string_bytes}
+use Rattle.std.proofs.Common.{◌≡◌, inl, inr, ℕ, Bool, List, Some, Result, Ok, Err, refl, string_bytes}
 use Rattle.mix_io.specs.Input.{InputView}
 use Rattle.mix_io.specs.Views.{FilesView, SinkView}
 use Rattle.mix_talk.specs.Ends.{heard_by}
@@ -7,14 +7,18 @@ use Rattle.mix_talk.specs.Heard.{Heard, steps_in}
 use Rattle.mix_talk.specs.declared.fault.TalkFault.{TalkFault}
 use Rattle.mix_talk.specs.declared.fault.TalkFault.TheVariants.{InputFailed, SinkFailed, OutOfMemory}
 use Rattle.mix_reach.specs.Stores.{StoresView}
-use Rattle.plan_core.specs.Events.{VisitedAreMatches}
+use Rattle.plan_core.specs.Events.{VisitedAreMatches, visited}
+use Rattle.plan_core.specs.Plans.{PlanValue, document as plan_document}
+use Rattle.plan_core.specs.Valid.{IsValid}
+use Rattle.mix_tree.specs.Forest.{LabelledTree}
+use Rattle.mix_tree.specs.Nodes.{Documents}
 use Rattle.xmas_read.specs.Results.{names_of_sources}
 use Rattle.plan_core.specs.PlanMade.{plan_value}
 use Rattle.mix_top.specs.Ends.{Ends}
 use Rattle.mix_top.specs.Outside.{outside}
 use Rattle.mix_top.specs.Running.{question_of}
-use Rattle.mix_top.specs.declared.refusal.Refusal.{Refusal}
-use Rattle.mix_top.specs.declared.refusal.Stop.TheVariants as stop
+use Rattle.mix_place.specs.declared.refusal.Refusal.{Refusal}
+use Rattle.mix_place.specs.declared.refusal.Stop.TheVariants as stop
 use Rattle.mix_top.proofs.RunCourse.{view_question}
 use Rattle.mix_top.proofs.StopLaws.{refusal_ends}
 use Rattle.mix_call.specs.Ends.{EndsSo, TalkEnds, TalkedAlong, talk_status}
@@ -34,7 +38,8 @@ ends_weaker C D input input' before after w (Err InputFailed) h = (h.0, h.1, (h.
 ends_weaker C D input input' before after w (Err SinkFailed) h = (h.0, (h.1.0, h.1.1, w h.1.0 h.1.1 h.1.2, h.1.3))
 ends_weaker C D input input' before after w (Err OutOfMemory) h = (h.0, h.1, w h.0 h.1 h.2, h.3)
 
-module _ (old new : FilesView) (stores stores' : StoresView) (view catalog : List ℕ) (visits : VisitedAreMatches) (input input' : InputView) (before after : SinkView) where
+module _ (old new : FilesView) (stores stores' : StoresView) (view catalog : List ℕ) (visits : VisitedAreMatches)
+    (has : (p : PlanValue) → IsValid p → (d : Documents) → (t : LabelledTree) × (plan_document (visited d) p.ops ≡ Some t)) (input input' : InputView) (before after : SinkView) where
   -- the talk of a run ends with this status
   abbrev Ended : ℕ → Type 0
   Ended status = TalkEnds (outside old stores) (outside new stores') view catalog input input' before after status
@@ -53,7 +58,7 @@ module _ (old new : FilesView) (stores stores' : StoresView) (view catalog : Lis
       talks asked fills status lines h = (
         question_of stores (placed ready) ready.basis.catalog (plan_value ready.basis.plan).ops (steps_in asked) h.0,
         record {
-          view_is = view_question old stores view catalog ready.basis.catalog (plan_value ready.basis.plan) (steps_in asked) (placed ready) visits is.catalog_is is.plan_is is.placed_are h.0 h.1;
+          view_is = view_question visits has old stores ready.basis.catalog (plan_value ready.basis.plan) (steps_in asked) (placed ready) is.placed_are h.0 view catalog is.catalog_is h.1 is.plan_is;
           steps_are = refl;
         },
         fills,

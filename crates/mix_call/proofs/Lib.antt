@@ -1,4 +1,5 @@
-mod Held
-mod Readying
-mod Served
-mod TalkLines
+pub mod Held
+pub mod Readying
+pub mod Served
+pub mod TalkEnding
+pub mod TalkLines

@@ -4,26 +4,26 @@ use Rattle.mix_io.specs.Views.{FilesView, KeepsFiles, ReadsOnly}
 use Rattle.mix_io.proofs.Keeps.{keeps_files_twice}
 use Rattle.mix_catalog.specs.declared.source.SourceSpec.{SourceSpec}
 use Rattle.plan_core.specs.Plans.{Operator, PlanValue}
-use Rattle.mix_top.specs.declared.refusal.Stop.{Stop}
-use Rattle.mix_top.specs.declared.refusal.Stop.TheVariants.{Refused, SinkFailed, OutOfMemory}
-use Rattle.mix_top.specs.Course.{IsCatalogFile, by_view}
-use Rattle.mix_top.specs.FilesRead.{SourceMayRead}
-use Rattle.mix_top.specs.Reading.{IsEither, ReadsAmong}
-use Rattle.mix_top.specs.Mounting.{IsMountStop}
-use Rattle.mix_top.specs.Running.{IsViewPlan}
-use Rattle.view_class.specs.Reads.{reads_source}
-use Rattle.mix_top.proofs.FilesRead.{reads_catalog, reads_then, reads_view, source_may_before}
-use Rattle.mix_top.proofs.MountLaws.{IsSteady}
-use Rattle.mix_top.proofs.Readiness.{gives_before, source_refused_after}
+use Rattle.mix_place.specs.declared.refusal.Stop.{Stop}
+use Rattle.mix_place.specs.declared.refusal.Stop.TheVariants.{Refused, SinkFailed, OutOfMemory}
+use Rattle.mix_place.specs.Files.{IsCatalogFile}
+use Rattle.mix_top.specs.Course.{by_view}
+use Rattle.mix_place.specs.Placed.{IsPlaceStop, SourceMayRead}
+use Rattle.mix_place.specs.Reading.{IsEither, ReadsAmong}
+use Rattle.mix_place.specs.Plans.{IsViewPlan}
+use Rattle.mix_top.proofs.FilesRead.{reads_catalog, reads_then, reads_view}
+use Rattle.mix_place.proofs.PlaceLaws.{place_may_before, place_refused_after}
+use Rattle.mix_place.proofs.MountLaws.{IsSteady}
+use Rattle.mix_top.proofs.Readiness.{gives_before}
 use Rattle.mix_call.specs.Over.{IsReadyStop}
 use Rattle.mix_call.specs.Talks.{TalkMayRead}
 
 -- where the file of a source is refused after a view that is accepted, a talk is not ready
 pub sources_unready : (old mid new : FilesView) (view catalog : List ℕ) (sources : List SourceSpec) (ops : List Operator) (stop : Stop) → IsSteady old mid
-    → IsCatalogFile old catalog sources → by_view.Gives old view sources ops → ReadsAmong (IsEither catalog view) old mid → IsMountStop mid new (reads_source ops) sources stop
+    → IsCatalogFile old catalog sources → by_view.Gives old view sources ops → ReadsAmong (IsEither catalog view) old mid → IsPlaceStop mid new ops sources stop
     → IsReadyStop old new view catalog stop
 sources_unready old mid new view catalog sources ops (Refused r) steady cat gives reads h =
-    inr (sources, cat, inr (ops, gives, source_refused_after (IsEither catalog view) old mid new (reads_source ops) sources r.status (string_bytes r.line) steady reads h))
+    inr (sources, cat, inr (ops, gives, place_refused_after (IsEither catalog view) old mid new ops sources r.status (string_bytes r.line) steady reads h))
 sources_unready old mid new view catalog sources ops SinkFailed steady cat gives reads h = absurd h
 sources_unready old mid new view catalog sources ops OutOfMemory steady cat gives reads h = tt
 
@@ -35,4 +35,4 @@ sources_read old mid late new view catalog sources p cat plan keeps later first 
     let one = reads_catalog by_view Sources old view catalog mid first in
     let two = reads_view by_view Sources old view catalog sources cat mid late one second in
     reads_then by_view Sources old view catalog sources cat p.ops (gives_before old mid view sources p keeps plan) late new two (SourceMayRead late p.ops sources)
-    (λ path h. source_may_before old late (reads_source p.ops) sources (keeps_files_twice old mid late keeps later) path h) reads
+    (λ path h. place_may_before old late p.ops sources (keeps_files_twice old mid late keeps later) path h) reads

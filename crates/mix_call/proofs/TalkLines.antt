@@ -1,21 +1,21 @@
 -- How the lines of a talk over sources end.
-use Rattle.std.proofs.Common.{◌≡◌, ◌∙◌, ◌+◌, ◌≤◌, IsTrue, inl, inr, ℕ, Bool, true, List, [], ◌∷◌, ◌++◌, Result, Ok, Err, refl, ap, sym, subst, arith, length, take, take_all, append_assoc}
+use Rattle.std.proofs.Common.{◌≡◌, ◌∙◌, ◌+◌, ◌≤◌, inl, inr, ℕ, Bool, List, [], ◌∷◌, ◌++◌, Option, Result, Ok, Err, refl, ap, sym, subst, arith, length, take, take_all, append_assoc}
 use Rattle.mix_base.proofs.Lists.{append_nil, take_append}
 use Rattle.mix_io.specs.Contents.{Appends}
 use Rattle.mix_io.specs.Input.{InputView}
-use Rattle.mix_io.specs.Views.{FilesView, SinkView}
+use Rattle.mix_io.specs.Views.{SinkView}
 use Rattle.mix_io.proofs.Taken.{took_none}
 use Rattle.mix_tree.specs.Forest.{LabelledTree}
-use Rattle.mix_reach.specs.Reach.{CameFrom, Reaching, came_same, view_of}
+use Rattle.mix_reach.specs.Reach.{CameFrom, Reaching}
 use Rattle.mix_reach.specs.Stores.{stores_of}
 use Rattle.plan_core.specs.PlanMade.{plan_value}
 use Rattle.xmas_read.specs.Results.{names_of_sources}
-use Rattle.lazy_plan.specs.Bench.{BenchState, ops_of, documents, forward}
+use Rattle.lazy_plan.specs.Bench.{BenchState}
 use Rattle.mix_script.specs.Names.{no_names}
 use Rattle.mix_script.specs.declared.answer.Answer.{Answer}
 use Rattle.mix_script.specs.declared.step.Step.{Step}
 use Rattle.mix_lines.specs.Lines.{IsLazy, IsRun}
-use Rattle.mix_session.specs.Walks.{IsDocument, plan_course}
+use Rattle.mix_session.specs.Walks.{plan_course}
 use Rattle.mix_talk.specs.Ends.{EndsBy, IsWhole, StopsBetween, StopsWithin, TalkEnds, heard_by}
 use Rattle.mix_talk.specs.Heard.{Heard, steps_in}
 use Rattle.mix_talk.specs.Lines.{spoken}
@@ -23,15 +23,17 @@ use Rattle.mix_talk.specs.declared.fault.TalkFault.{TalkFault}
 use Rattle.mix_talk.specs.declared.fault.TalkFault.TheVariants.{InputFailed, SinkFailed, OutOfMemory}
 use Rattle.mix_talk.proofs.Telling.{spoken_append, spoken_more, spoken_on}
 use Rattle.mix_talk.proofs.Timely.{timely_start}
-use Rattle.mix_top.specs.Answered.{IsAnsweredIn, all_told}
+use Rattle.mix_top.specs.Answered.{IsAnsweredIn}
 use Rattle.mix_top.specs.Ends.{TookPrefix}
 use Rattle.mix_top.specs.Question.{Question, IsPlanDocument}
-use Rattle.mix_top.specs.Running.{ArePlaced, IsPlanOver, documents_of, placed_of, question_of}
+use Rattle.mix_top.specs.Running.{all_documents, placed_of, question_of}
 use Rattle.mix_top.specs.Stops.{IsDoneWith, outcome_of, outcome_status}
-use Rattle.mix_top.proofs.Answering.{Frugal, IsAnswering, IsManner, answering, prefix_of, unanswered}
+use Rattle.mix_top.proofs.Answering.{Frugal, IsAnswering, IsManner, IsOver, answering, prefix_of, unanswered}
+use Rattle.mix_top.proofs.Sums.{none_counted}
+use Rattle.lxp_core.specs.View.{View}
+use Rattle.plan_core.specs.declared.plan.Plan.{Plan}
 use Rattle.mix_top.proofs.Lines.{nothing_of}
 use Rattle.mix_top.proofs.LinesEnd.{outcome_is}
-use Rattle.mix_top.proofs.ReadTables.{plan_within}
 use Rattle.mix_call.specs.Ends.{EndsSo, TalkedAlong}
 use Rattle.mix_call.specs.Over.{TalkOver}
 use Rattle.mix_call.specs.Talks.{in_talk}
@@ -48,18 +50,16 @@ in_talk_is_manner asked q = record {
   more = λ answers more. spoken_more (names_of_sources q.sources) asked answers more;
 }
 
-module _ (files : FilesView) (a b : Reaching) (came : CameFrom a b) (basis : Basis) (mounted : ArePlaced files (plan_value basis.plan).ops basis.catalog (placed_of a))
-    (over : IsPlanOver basis.catalog (plan_value basis.plan)) (st : BenchState) (same : ops_of st ≡ (plan_value basis.plan).ops)
-    (docs_are : documents st ≡ documents_of (stores_of a) (placed_of a)) (ahead : all_told (stores_of a) (plan_value basis.plan).ops basis.catalog ≡ true → IsTrue (forward st)) (t : LabelledTree)
-    (document_is : all_told (stores_of a) (plan_value basis.plan).ops basis.catalog ≡ true → IsDocument st t) (unasked : a.fills ≡ 0) (few : b.mounted.tables.pages ≤ a.mounted.tables.pages + b.fills)
-    (is_document : IsPlanDocument (documents_of (stores_of a) (placed_of a)) (plan_value basis.plan).ops t) (input input' : InputView) (before after : SinkView) where
+module _ (old new : View) (a b : Reaching) (views : List (Option Plan)) (basis : Basis) (st : BenchState) (t : LabelledTree)
+    (over : (steps : List Step) → IsOver old new st a b (question_of (stores_of a) (placed_of a views) basis.catalog (plan_value basis.plan).ops steps t)) (few : b.mounted.tables.pages ≤ a.mounted.tables.pages + b.fills)
+    (is_document : IsPlanDocument (all_documents (stores_of a) (placed_of a views)) (plan_value basis.plan).ops t) (input input' : InputView) (before after : SinkView) where
   -- the names of the sources of the catalog
   abbrev names : List (List ℕ)
   names = names_of_sources basis.catalog
 
   -- the course of a talk over the sources, by the fills that were asked
   abbrev Course : List Heard → SinkView → SinkView → ℕ → List ℕ → Type 0
-  Course = TalkOver b.fills (stores_of a) (stores_of b) (placed_of a) basis
+  Course = TalkOver b.fills (stores_of a) (stores_of b) (placed_of a views) basis
 
   module _ (asked : List Heard) where
     -- the steps among the lines that were heard
@@ -68,18 +68,18 @@ module _ (files : FilesView) (a b : Reaching) (came : CameFrom a b) (basis : Bas
 
     -- the question of the steps that were heard, on the document, over the sources
     abbrev q : Question
-    q = question_of (stores_of a) (placed_of a) basis.catalog (plan_value basis.plan).ops steps t
+    q = question_of (stores_of a) (placed_of a views) basis.catalog (plan_value basis.plan).ops steps t
 
     -- answers that a run on the course of the plan gives
     abbrev Are : List Answer → Type 0
-    Are answers = IsRun (plan_course st) (view_of a).faults (view_of b).faults steps answers
+    Are answers = IsRun (plan_course st) old.faults new.faults steps answers
 
     -- answers that ask for no more fills than the course of the plan allows
     abbrev Cost : List Answer → Type 0
-    Cost answers = IsLazy (plan_course st) (view_of a).fills (view_of b).fills steps answers
+    Cost answers = IsLazy (plan_course st) old.fills new.fills steps answers
 
-    run : IsAnswering (in_talk asked q) a b basis.catalog (plan_value basis.plan).ops steps st t before after
-    run = answering files a b came basis.catalog (plan_value basis.plan).ops steps mounted (plan_within basis.catalog (plan_value basis.plan) over) (in_talk asked q) st same docs_are ahead t document_is unasked few before after (in_talk_is_manner asked q)
+    run : IsAnswering (in_talk asked q) old new a b q st before after
+    run = answering (in_talk asked q) old new st a b q (over steps) few before after (in_talk_is_manner asked q)
 
     -- where a prefix of lines of the answers was written, a prefix of a talk's lines was
     took : (answers : List Answer) → Are answers → Frugal (in_talk asked q) a b q before after answers → (lines rest : List ℕ) → lines ++ rest ≡ spoken names asked answers
@@ -134,15 +134,15 @@ module _ (files : FilesView) (a b : Reaching) (came : CameFrom a b) (basis : Bas
     lines_end (Err OutOfMemory) (inr w) = within w
 
   -- a talk over sources ends as its lines do
-  pub talk_lines_end : (r : Result Bool TalkFault) → TalkEnds (plan_course st) (view_of a) (view_of b) names input input' before after r → TalkedAlong names Course input input' before after r
+  pub talk_lines_end : (r : Result Bool TalkFault) → TalkEnds (plan_course st) old new names input input' before after r → TalkedAlong names Course input input' before after r
   talk_lines_end r e = record { bytes = e.bytes; took = e.took; timely = e.timely; ends = lines_end (heard_by e.bytes r) r e.ends }
 
 -- where memory ran out before anything was taken of the input of a talk, nothing was written of its lines
-pub talk_untaken : (a : Reaching) (basis : Basis) (t : LabelledTree) → IsPlanDocument (documents_of (stores_of a) (placed_of a)) (plan_value basis.plan).ops t → a.fills ≡ 0
-    → a.mounted.tables.pages ≤ a.mounted.tables.pages + a.fills → (input : InputView) (before : SinkView)
-    → TalkedAlong (names_of_sources basis.catalog) (TalkOver a.fills (stores_of a) (stores_of a) (placed_of a) basis) input input before before (Err OutOfMemory)
-talk_untaken a basis t is_document unasked few input before =
+pub talk_untaken : (a b : Reaching) → CameFrom a b → (views : List (Option Plan)) (basis : Basis) (t : LabelledTree) → IsPlanDocument (all_documents (stores_of a) (placed_of a views)) (plan_value basis.plan).ops t → b.fills ≡ 0
+    → b.mounted.tables.pages ≤ a.mounted.tables.pages + b.fills → (input : InputView) (before : SinkView)
+    → TalkedAlong (names_of_sources basis.catalog) (TalkOver b.fills (stores_of a) (stores_of b) (placed_of a views) basis) input input before before (Err OutOfMemory)
+talk_untaken a b came views basis t is_document unasked few input before =
     let asked = heard_by [] (Err OutOfMemory) in
-    let q = question_of (stores_of a) (placed_of a) basis.catalog (plan_value basis.plan).ops (steps_in asked) t in
-    let f = unanswered (in_talk asked q) a a (came_same a) basis.catalog (plan_value basis.plan).ops (steps_in asked) t unasked few before (in_talk_is_manner asked q) ([], asked, refl, refl, [], refl) in
+    let q = question_of (stores_of a) (placed_of a views) basis.catalog (plan_value basis.plan).ops (steps_in asked) t in
+    let f = unanswered (in_talk asked q) a b q (none_counted a b came q) unasked few before (in_talk_is_manner asked q) ([], asked, refl, refl, [], refl) in
     record { bytes = []; took = took_none input; timely = timely_start (names_of_sources basis.catalog) before.written; ends = (f.status, f.lines, (t, is_document, f.is), nothing_of before.written f.lines) }

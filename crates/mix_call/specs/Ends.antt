@@ -11,7 +11,8 @@ use Rattle.mix_talk.specs.declared.fault.TalkFault.{TalkFault}
 use Rattle.mix_talk.specs.declared.fault.TalkFault.TheVariants.{InputFailed, SinkFailed, OutOfMemory}
 use Rattle.mix_top.specs.Commands.{command_of}
 use Rattle.xmas_read.specs.Results.{names_of_sources}
-use Rattle.mix_top.specs.Course.{IsCatalogFile, IsCourse}
+use Rattle.mix_place.specs.Files.{IsCatalogFile}
+use Rattle.mix_top.specs.Course.{IsCourse}
 use Rattle.mix_top.specs.Ends.{Ends, EndsAlong, TookPrefix}
 use Rattle.mix_top.specs.Outside.{Outside}
 use Rattle.mix_top.specs.Stops.{IsDoneAlong, IsDoneWith, outcome_of, outcome_status}

@@ -1,20 +1,31 @@
 -- A talk over sources that are mounted.
-use Rattle.std.specs.Prelude.{◌≤◌, ℕ, ◌+◌, List, Result, Bool, length}
+use Rattle.std.specs.Prelude.{◌≡◌, ◌⊎◌, ◌≤◌, ℕ, ◌+◌, ◌-◌, ◌^◌, List, Option, Result, Err, Bool, length}
 use Rattle.mix_io.specs.Input.{InputView}
 use Rattle.mix_io.specs.Views.{FilesView, SinkView}
 use Rattle.mix_reach.specs.Reach.{Reaching}
 use Rattle.mix_reach.specs.Stores.{StoresView, stores_of}
 use Rattle.mix_talk.specs.Heard.{Heard, steps_in}
+use Rattle.mix_talk.specs.Ends.{TalkEnds as HeardEnds}
+use Rattle.mix_talk.specs.declared.fault.TalkFault.TheVariants.{OutOfMemory}
+use Rattle.lxp_core.specs.View.{View}
+use Rattle.lazy_plan.specs.Bench.{ops_of}
+use Rattle.lazy_value.specs.Mediators.{state_of}
+use Rattle.lazy_value.specs.declared.mediator.Mediator.{Mediator}
+use Rattle.mix_session.specs.Walks.{plan_course}
+use Rattle.plan_core.specs.declared.plan.Plan.{Plan}
 use Rattle.mix_talk.specs.declared.fault.TalkFault.{TalkFault}
 use Rattle.mix_tree.specs.Forest.{LabelledTree}
 use Rattle.plan_core.specs.PlanMade.{plan_value}
 use Rattle.xmas_read.specs.Results.{names_of_sources}
 use Rattle.mix_top.specs.Answered.{IsAnsweredIn}
-use Rattle.mix_top.specs.Course.{IsCatalogFile, IsSourceRefused, by_view}
+use Rattle.mix_place.specs.Files.{IsCatalogFile}
+use Rattle.mix_place.specs.Placed.{IsSourceRefused, placed as placed_by, ArePlaced, Placed}
+use Rattle.mix_top.specs.Course.{by_view}
 use Rattle.mix_top.specs.Question.{IsPlanDocument}
-use Rattle.mix_top.specs.Reading.{IsEither}
-use Rattle.mix_top.specs.Running.{ArePlaced, IsPlanOver, IsStopAfter, IsViewPlan, Placed, documents_of, placed_of, question_of}
-use Rattle.mix_top.specs.declared.refusal.Stop.{Stop}
+use Rattle.mix_place.specs.Reading.{IsEither}
+use Rattle.mix_place.specs.Plans.{IsPlanOver, IsViewPlan}
+use Rattle.mix_top.specs.Running.{IsStopAfter, all_documents, placed_of, question_of}
+use Rattle.mix_place.specs.declared.refusal.Stop.{Stop}
 use Rattle.mix_call.specs.Ends.{TalkedAlong}
 use Rattle.mix_call.specs.Talks.{in_talk}
 use Rattle.mix_call.specs.declared.talking.Basis.{Basis}
@@ -22,7 +33,7 @@ use Rattle.mix_call.specs.declared.talking.Ready.{Ready}
 
 -- what was made ready for a talk, as its sources
 abbrev pub placed : Ready → Placed
-placed r = record { docs = r.docs.items; sites = r.sites.items }
+placed r = placed_by r.placement
 
 -- all files of a talk were accepted: what was read of them is the catalog, the plan of the view and the mounted sources
 pub record IsReady (files : FilesView) (view catalog : List ℕ) (r : Ready) : Type 0 where
@@ -30,7 +41,7 @@ pub record IsReady (files : FilesView) (view catalog : List ℕ) (r : Ready) : T
   pub plan_is : IsViewPlan files view r.basis.catalog (plan_value r.basis.plan)
   pub over : IsPlanOver r.basis.catalog (plan_value r.basis.plan)
   pub placed_are : ArePlaced files (plan_value r.basis.plan).ops r.basis.catalog (placed r)
-  pub few : length r.docs.items ≤ 32
+  pub few : length r.basis.catalog ≤ 32
 
 -- a file of a talk is refused, or memory ran out
 abbrev pub IsReadyStop : FilesView → FilesView → List ℕ → List ℕ → Stop → Type 0
@@ -39,12 +50,23 @@ IsReadyStop old new view catalog = IsStopAfter by_view (λ sources ops. IsSource
 -- given lines answer what was heard on the plan's document over sources, by a number of fills
 abbrev pub TalkOver : ℕ → StoresView → StoresView → Placed → Basis → List Heard → SinkView → SinkView → ℕ → List ℕ → Type 0
 TalkOver fills before after place basis asked sink sink' status lines =
-    (t : LabelledTree) × IsPlanDocument (documents_of before place) (plan_value basis.plan).ops t
+    (t : LabelledTree) × IsPlanDocument (all_documents before place) (plan_value basis.plan).ops t
     × (let q = question_of before place basis.catalog (plan_value basis.plan).ops (steps_in asked) t in
     IsAnsweredIn (in_talk asked q) before after q fills sink sink' status lines)
 
--- how a talk ends over sources that are reached, by all their fills, where no more pages were asked than fills
-abbrev pub IsReachedEnd : Reaching → Reaching → Basis → InputView → InputView → SinkView → SinkView → Result Bool TalkFault → Type 0
-IsReachedEnd old new basis input input' sink sink' end =
-    new.mounted.tables.pages ≤ old.mounted.tables.pages + new.fills
-    → TalkedAlong (names_of_sources basis.catalog) (TalkOver new.fills (stores_of old) (stores_of new) (placed_of old) basis) input input' sink sink' end
+-- how a talk ends over sources that are reached and views over them, by all their fills, where no more pages were asked than fills, the count of which is one of 64 bits
+abbrev pub IsReachedEnd : Reaching → Reaching → List (Option Plan) → Basis → InputView → InputView → SinkView → SinkView → Result Bool TalkFault → Type 0
+IsReachedEnd old new views basis input input' sink sink' end =
+    new.mounted.tables.pages ≤ old.mounted.tables.pages + new.fills → new.fills ≤ 2 ^ 64 - 1
+    → TalkedAlong (names_of_sources basis.catalog) (TalkOver new.fills (stores_of old) (stores_of new) (placed_of old views) basis) input input' sink sink' end
+
+-- a mediator of a plan over sources was talked to, and that ended
+pub record IsHeard (old new : View) (basis : Basis) (input input' : InputView) (sink sink' : SinkView) (end : Result Bool TalkFault) : Type 0 where
+  pub mediator : Mediator
+  pub ops_are : ops_of (state_of old mediator) ≡ (plan_value basis.plan).ops
+  pub ends : HeardEnds (plan_course (state_of old mediator)) old new (names_of_sources basis.catalog) input input' sink sink' end
+
+-- how a talk ends over the sources of its catalog: a mediator was talked to; or memory ran out before anything was taken, and what is given is so
+abbrev pub IsEnd : Type 0 → View → View → Basis → InputView → InputView → SinkView → SinkView → Result Bool TalkFault → Type 0
+IsEnd Unbegun old new basis input input' sink sink' end =
+    IsHeard old new basis input input' sink sink' end ⊎ ((end ≡ Err OutOfMemory) × (input' ≡ input) × (sink' ≡ sink) × Unbegun)

@@ -11,15 +11,16 @@ use Rattle.mix_serve.specs.declared.fault.ServeFault.{ServeFault}
 use Rattle.mix_serve.specs.declared.fault.ServeFault.TheVariants.{InputFailed, SinkFailed, OutOfMemory}
 use Rattle.mix_serve.specs.declared.serving.Served.{Served}
 use Rattle.mix_serve.specs.declared.serving.Served.TheVariants.{Whole, Broken, TooLong}
-use Rattle.mix_top.specs.Course.{IsCatalogFile, IsChosenRefused, ReadsAfter, every}
+use Rattle.mix_place.specs.Causes.{IsNoCatalog}
+use Rattle.mix_place.specs.Files.{IsBaseFile, IsRefusedFirst}
+use Rattle.mix_place.specs.Chosen.{IsChosenRefused, every, ChosenMayRead}
 use Rattle.mix_top.specs.Ends.{Ends}
-use Rattle.mix_top.specs.FilesRead.{ChosenMayRead}
-use Rattle.mix_top.specs.Mounting.{AllAreMounted, AreSites}
+use Rattle.mix_place.specs.Mounting.{AllAreMounted, AreSites}
+use Rattle.mix_place.specs.Placed.{Placed}
 use Rattle.mix_top.specs.Outside.{Outside}
-use Rattle.mix_top.specs.Running.{Placed}
 use Rattle.mix_top.specs.Texts.{unknown_text}
-use Rattle.mix_top.specs.declared.refusal.Stop.{Stop}
-use Rattle.mix_top.specs.declared.refusal.Stop.TheVariants as stop
+use Rattle.mix_place.specs.declared.refusal.Stop.{Stop}
+use Rattle.mix_place.specs.declared.refusal.Stop.TheVariants as stop
 use Rattle.mix_call.specs.declared.serving.Holding.{Holding}
 
 -- the catalog of serving, where command words are those of it
@@ -29,22 +30,24 @@ catalog_of (word ∷ []) = None
 catalog_of (word ∷ a ∷ []) = cond (bytes_eq word (codes "serve")) (Some a) None
 catalog_of (word ∷ a ∷ b ∷ words) = None
 
--- a file of serving is refused, the first in this order: the catalog, and the files of all its sources
+-- a file of serving is refused, the first in this order: the catalog, and the files of all its sources that are no views
 abbrev pub IsServingRefused : FilesView → FilesView → List ℕ → ℕ → List ℕ → Type 0
-IsServingRefused old new catalog = ReadsAfter (λ sources. IsChosenRefused (λ p. p ≡ catalog) old new every sources) old new catalog
+IsServingRefused old new catalog status line =
+    IsRefusedFirst IsNoCatalog old new catalog status line
+    ⊎ ((sources : List SourceSpec) × IsBaseFile old catalog sources × IsChosenRefused (λ p. p ≡ catalog) old new every sources status line)
 
--- serving may read the catalog, and then the files of all its sources
+-- serving may read the catalog, and then the files of all its sources that are no views
 abbrev pub ServingMayRead : FilesView → List ℕ → List ℕ → Type 0
-ServingMayRead files catalog path = (path ≡ catalog) ⊎ ((sources : List SourceSpec) × IsCatalogFile files catalog sources × ChosenMayRead files every sources path)
+ServingMayRead files catalog path = (path ≡ catalog) ⊎ ((sources : List SourceSpec) × IsBaseFile files catalog sources × ChosenMayRead files every sources path)
 
--- given sources are all those of a catalog, each as the catalog says
+-- given sources are all those of a catalog that are no views, each as the catalog says
 abbrev pub AreServed : FilesView → List ℕ → Placed → Type 0
 AreServed files catalog place =
-    (sources : List SourceSpec) × IsCatalogFile files catalog sources × AllAreMounted files sources place.docs × AreSites every sources place.sites
+    (sources : List SourceSpec) × IsBaseFile files catalog sources × AllAreMounted files sources place.docs × AreSites every sources place.sites
 
 -- what was made ready for serving, as its sources
 abbrev pub placed : Holding → Placed
-placed h = record { docs = h.docs.items; sites = h.sites.items }
+placed h = record { docs = h.docs.items; sites = h.sites.items; views = [] }
 
 -- the files of serving were not all accepted: one is refused, or memory ran out
 abbrev pub IsServingStop : FilesView → FilesView → List ℕ → Stop → Type 0

@@ -5,11 +5,12 @@ use Rattle.mix_talk.specs.Heard.{Heard, steps_in}
 use Rattle.mix_talk.specs.Lines.{spoken, talk_transcript}
 use Rattle.xmas_read.specs.Results.{names_of_sources}
 use Rattle.mix_top.specs.Answered.{IsAnsweredIn, Manner}
-use Rattle.mix_top.specs.Course.{IsRefusedAfter, IsSourceRefused, IsViewQuestion, by_view}
-use Rattle.mix_top.specs.FilesRead.{MayReadAfter, SourceMayRead}
+use Rattle.mix_top.specs.Course.{IsRefusedAfter, IsViewQuestion, by_view}
+use Rattle.mix_place.specs.Placed.{IsSourceRefused, SourceMayRead}
+use Rattle.mix_top.specs.FilesRead.{MayReadAfter}
 use Rattle.mix_top.specs.Outside.{Outside}
 use Rattle.mix_top.specs.Question.{Question}
-use Rattle.mix_top.specs.Reading.{IsEither}
+use Rattle.mix_place.specs.Reading.{IsEither}
 
 -- a file of a talk is refused, the first in this order: the catalog, the view, and the files of the sources that the view's plan reads
 abbrev pub IsTalkRefused : FilesView → FilesView → List ℕ → List ℕ → ℕ → List ℕ → Type 0

@@ -4,7 +4,7 @@ ghost use Rattle.mix_io.specs.Input.{InputView};
 ghost use Rattle.mix_io.specs.Views.{FilesView, SinkView, KeepsFiles};
 ghost use Rattle.mix_reach.specs.Stores.{KeepsStores, StoresView, stores_in};
 ghost use Rattle.mix_top.specs.Commands.{asks_stores, command_of};
-ghost use Rattle.mix_top.specs.Reading.{ReadsAmong};
+ghost use Rattle.mix_place.specs.Reading.{ReadsAmong};
 ghost use Rattle.mix_top.specs.Outside.{outside};
 ghost use Rattle.mix_call.specs.Ends.{WordsEnd, talk_of};
 ghost use Rattle.mix_call.specs.Reading.{WordsMayRead};

@@ -3,17 +3,17 @@ ghost use Rattle.std.specs.Prelude.{◌≡◌, ◌≤◌, Some, None, IfSome, If
 ghost use Rattle.mix_io.specs.Input.{InputView};
 ghost use Rattle.mix_io.specs.Views.{FilesView, SinkView, KeepsFiles};
 ghost use Rattle.mix_reach.specs.Stores.{KeepsStores, StoresView, stores_in};
-ghost use Rattle.mix_top.specs.Reading.{ReadsAmong};
+ghost use Rattle.mix_place.specs.Reading.{ReadsAmong};
 ghost use Rattle.mix_top.specs.Outside.{outside};
-ghost use Rattle.mix_call.specs.Served.{AreAnswered, AreServed, IsServingStop, ServeEnds, ServeWordsEnd, ServeWordsMayRead, ServingMayRead};
-ghost use Rattle.mix_call.specs.Served.{catalog_of, placed, serving_status};
+ghost use Rattle.mix_call.specs.Served.{AreAnswered, AreServed, IsServingStop, ServeEnds, ServeWordsEnd, ServeWordsMayRead, ServingMayRead, catalog_of, placed, serving_status};
 
 use far_keep::Fars;
 use mix_io::{Files, Input, Sink, Streams};
 use mix_mount::{Mount, Mounted};
+use mix_place::{Stop, load_base, mount_all, read_all_sites};
 use mix_reach::{Reached, Site, Stores};
 use mix_serve::{ServeFault, Served, serve_requests};
-use mix_top::{Stop, load_catalog, mount_all, read_all_sites, refuse, refuse_words};
+use mix_top::{refuse, refuse_words};
 use std::alloc::Global;
 use table_keep::Tables;
 
@@ -43,7 +43,7 @@ fn make_ready<F: Files>(alloc: Global, catalog: &str, files: &mut F) -> Result<H
     ensures few { IfOk result (λ held. length held.docs.items ≤ 32) }
     ensures err { IfErr result (IsServingStop (F.view files.old) (F.view files.new) catalog.now) }
 {
-    let sources = load_catalog(alloc, files, catalog)?;
+    let sources = load_base(alloc, files, catalog)?;
     let docs = mount_all(alloc, files, &sources)?;
     let sites = read_all_sites(alloc, &sources)?;
     Ok(Holding { docs, sites })

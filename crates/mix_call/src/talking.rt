@@ -6,24 +6,29 @@ ghost use Rattle.plan_core.specs.PlanMade.{plan_value};
 ghost use Rattle.xmas_read.specs.Results.{names_of_sources};
 ghost use Rattle.mix_reach.specs.Reach.{CameFrom, reaching_in};
 ghost use Rattle.mix_reach.specs.Stores.{KeepsStores, StoresView, stores_in};
-ghost use Rattle.mix_top.specs.Reading.{ReadsAmong};
+ghost use Rattle.mix_place.specs.Reading.{ReadsAmong};
 ghost use Rattle.mix_top.specs.Outside.{outside};
-ghost use Rattle.mix_top.specs.Running.{ArePlaced, IsPlanOver, placed_of};
+ghost use Rattle.mix_place.specs.Placed.{ArePlaced};
+ghost use Rattle.mix_place.specs.Plans.{IsPlanOver};
+ghost use Rattle.mix_top.specs.Running.{placed_of};
 ghost use Rattle.mix_call.specs.Ends.{TalkEnds, TalkedAlong, talk_status};
-ghost use Rattle.mix_call.specs.Over.{IsReachedEnd, IsReady, IsReadyStop, TalkOver, placed};
+ghost use Rattle.mix_call.specs.Over.{IsEnd, IsReachedEnd, IsReady, IsReadyStop, TalkOver, placed};
 ghost use Rattle.mix_call.specs.Talks.{TalkMayRead};
 
 use far_keep::Fars;
 use lazy_value::{Mediator, valid_plans_have_documents};
+use lxp_core::Sources;
 use mix_catalog::Catalog;
 use mix_io::{Files, Input, Sink, Streams};
-use mix_mount::{Mount, Mounted};
-use mix_reach::{Reached, Site, Stores};
+use mix_mount::Mounted;
+use mix_place::{Placement, Stop, load_catalog, load_view, place_sources, source_names};
+use mix_reach::{Reached, Stores};
 use mix_talk::{TalkFault, talk_lines};
-use mix_top::{Stop, load_catalog, load_view, mount_sources, read_sites, refuse, source_names};
+use mix_top::refuse;
 use plan_core::{Plan, visited_are_matches};
 use std::alloc::Global;
 use table_keep::Tables;
+use view_stack::Stack;
 
 /// A talk: the files of its view and its catalog.
 #[derive(Clone, Copy, Debug)]
@@ -39,12 +44,11 @@ pub struct Basis {
     pub plan: Plan,
 }
 
-/// What a talk needs: what it is over, the documents of the sources that the plan reads, and where each source is.
+/// What a talk needs: what it is over, and the sources, placed for the plan.
 #[derive(Drop)]
 pub struct Ready {
     pub basis: Basis,
-    pub docs: Vec<Mount>,
-    pub sites: Vec<Site>,
+    pub placement: Placement,
 }
 
 // Reads the files of a talk, each accepted before the next is read: the catalog, the view, and then those of the sources that the view's
@@ -58,28 +62,24 @@ fn make_ready<F: Files>(alloc: Global, talking: &Talking<'_>, files: &mut F) -> 
 {
     let catalog = load_catalog(alloc, files, talking.catalog)?;
     let plan = load_view(alloc, files, talking.view, &catalog)?;
-    let docs = mount_sources(alloc, files, &catalog, &plan)?;
-    let sites = read_sites(alloc, &catalog, &plan)?;
+    let placement = place_sources(alloc, files, &catalog, &plan)?;
     Ok(Ready {
         basis: Basis { catalog, plan },
-        docs,
-        sites,
+        placement,
     })
 }
 
-// Answers the lines of an input on the document of a plan over sources, of which no fill was asked yet.
-fn talk_over<T: Tables, R: Fars, I: Input, K: Sink>(
+// Answers the lines of an input on the document of a plan over the sources of its catalog.
+fn talk_over<S: Sources, I: Input, K: Sink>(
     alloc: Global,
     basis: Basis,
-    sources: &mut Reached<T, R>,
+    sources: &mut S,
     streams: &mut Streams<I, K>,
 ) -> Result<bool, TalkFault>
     requires over { IsPlanOver basis.catalog (plan_value basis.plan) }
-    requires placed { let place = placed_of (reaching_in T.view R.view sources.old) in
-        (files : FilesView) × ArePlaced files (plan_value basis.plan).ops basis.catalog place }
-    requires unasked { sources.old.fills ≡ 0 }
-    ensures came { CameFrom (reaching_in T.view R.view sources.old) (reaching_in T.view R.view sources.new) }
-    ensures end { IsReachedEnd (reaching_in T.view R.view sources.old) (reaching_in T.view R.view sources.new) basis
+    requires number { (S.view sources.old).count ≡ length basis.catalog }
+    ensures came { S.came_from sources.old sources.new }
+    ensures end { IsEnd (sources.new ≡ sources.old) (S.view sources.old) (S.view sources.new) basis
         (I.view streams.old.input) (I.view streams.new.input) (K.view streams.old.out) (K.view streams.new.out) result }
     ensures input { (I.view streams.old.input).faults ≤ (I.view streams.new.input).faults }
     ensures count { (K.view streams.old.out).faults ≤ (K.view streams.new.out).faults }
@@ -89,6 +89,35 @@ fn talk_over<T: Tables, R: Fars, I: Input, K: Sink>(
     let names = source_names(alloc, &catalog)?;
     let mediator = Mediator::open(alloc, plan, sources)?;
     talk_lines(alloc, sources, mediator, &names, streams)
+}
+
+// Answers the lines of an input on the document of a plan over sources, of which no fill was asked yet, and views over them. The sources are handed back.
+fn talk_stacked<T: Tables, R: Fars, I: Input, K: Sink>(
+    alloc: Global,
+    basis: Basis,
+    views: Vec<Option<Plan>>,
+    sources: Reached<T, R>,
+    streams: &mut Streams<I, K>,
+) -> (Result<bool, TalkFault>, Reached<T, R>)
+    requires over { IsPlanOver basis.catalog (plan_value basis.plan) }
+    requires placed { (files : FilesView)
+        × ArePlaced files (plan_value basis.plan).ops basis.catalog (placed_of (reaching_in T.view R.view sources) views.items) }
+    requires few { length basis.catalog ≤ 32 }
+    requires unasked { sources.fills ≡ 0 }
+    ensures came { CameFrom (reaching_in T.view R.view sources) (reaching_in T.view R.view result.1) }
+    ensures end { IsReachedEnd (reaching_in T.view R.view sources) (reaching_in T.view R.view result.1) views.items basis
+        (I.view streams.old.input) (I.view streams.new.input) (K.view streams.old.out) (K.view streams.new.out) result.0 }
+    ensures input { (I.view streams.old.input).faults ≤ (I.view streams.new.input).faults }
+    ensures count { (K.view streams.old.out).faults ≤ (K.view streams.new.out).faults }
+{
+    valid_plans_have_documents();
+    match Stack::open(alloc, sources, views) {
+        Ok(mut stack) => {
+            let end = talk_over(alloc, basis, &mut stack, streams);
+            (end, stack.into_base())
+        }
+        Err(refused) => (Err(TalkFault::OutOfMemory), refused.base),
+    }
 }
 
 // Answers the lines of an input over mounted documents and stores, which are handed back.
@@ -101,7 +130,7 @@ fn talk_ready<T: Tables, R: Fars, I: Input, K: Sink>(
     requires over { IsPlanOver ready.basis.catalog (plan_value ready.basis.plan) }
     requires placed { let basis = ready.basis in
         (files : FilesView) × ArePlaced files (plan_value basis.plan).ops basis.catalog (placed ready) }
-    requires few { length ready.docs.items ≤ 32 }
+    requires few { length ready.basis.catalog ≤ 32 }
     ensures keeps { KeepsStores (stores_in T.view R.view stores) (stores_in T.view R.view result.1) }
     ensures end { let old = stores_in T.view R.view stores in let new = stores_in T.view R.view result.1 in
         (fills : ℕ) × TalkedAlong (names_of_sources ready.basis.catalog) (TalkOver fills old new (placed ready) ready.basis)
@@ -109,14 +138,16 @@ fn talk_ready<T: Tables, R: Fars, I: Input, K: Sink>(
     ensures input { (I.view streams.old.input).faults ≤ (I.view streams.new.input).faults }
     ensures count { (K.view streams.old.out).faults ≤ (K.view streams.new.out).faults }
 {
-    let Ready { basis, docs, sites } = ready;
+    let Ready { basis, placement } = ready;
+    let Placement { docs, sites, views } = placement;
     let Stores { tables, fars } = stores;
-    let mut sources = Reached::new(Mounted::new(docs, tables), sites, fars);
-    let end = talk_over(alloc, basis, &mut sources, streams);
+    let sources = Reached::new(Mounted::new(docs, tables), sites, fars);
+    let (end, sources) = talk_stacked(alloc, basis, views, sources, streams);
+    let fills = sources.fills();
     let (mounted, fars) = sources.into_parts();
     let tables = mounted.into_tables();
     let pages = tables.pages();
-    prove!(pages <= u64::MAX);
+    prove!(pages <= u64::MAX && fills <= u64::MAX);
     (end, Stores { tables, fars })
 }
 
@@ -154,6 +185,7 @@ pub fn talk<F: Files, T: Tables, R: Fars, I: Input, K: Sink>(
     ensures count { (K.view streams.old.out).faults ≤ (K.view streams.new.out).faults }
 {
     visited_are_matches();
+    valid_plans_have_documents();
     match make_ready(alloc, talking, files) {
         Ok(ready) => {
             let (end, stores) = talk_ready(alloc, ready, stores, streams);

@@ -5,9 +5,9 @@ use Rattle.mix_io.specs.Views.{FilesView}
 use Rattle.mix_io.specs.declared.whole.ReadWhole.{ReadWhole}
 use Rattle.mix_io.specs.declared.whole.ReadWhole.TheVariants.{Failed, OutOfMemory}
 use Rattle.mix_io.specs.declared.whole.ReadWhole.TheVariants as whole
-use Rattle.mix_top.specs.declared.refusal.FileFault.{FileFault}
-use Rattle.mix_top.specs.declared.refusal.FileFault.TheVariants.{Unread, TooLong}
-use Rattle.mix_top.specs.Causes.{IsCause, IsRead, IsTooLong}
+use Rattle.mix_place.specs.declared.refusal.FileFault.{FileFault}
+use Rattle.mix_place.specs.declared.refusal.FileFault.TheVariants.{Unread, TooLong}
+use Rattle.mix_place.specs.Causes.{IsCause, IsRead, IsTooLong}
 use Rattle.mix_explain.specs.declared.explained.Explained.{Explained}
 use Rattle.mix_explain.specs.Explained.{ExplainsRefusal, IsRefusalOf, IsSaid, IsUnreadFor}
 

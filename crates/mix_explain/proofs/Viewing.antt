@@ -4,11 +4,11 @@ use Rattle.mix_io.specs.Views.{FilesView, KeepsFiles}
 use Rattle.mix_catalog.specs.declared.source.SourceSpec.{SourceSpec}
 use Rattle.xmas_read.specs.Results.{names_of_sources}
 use Rattle.xmas_rule.specs.Rules.{RuleValue}
-use Rattle.mix_top.specs.declared.refusal.FileFault.{FileFault}
-use Rattle.mix_top.specs.declared.refusal.FileFault.TheVariants.{Unread, TooLong, Document, Csv, Json, Catalog, Script, View, Plan}
-use Rattle.mix_top.specs.Causes.{IsNoRule, IsRead}
-use Rattle.mix_top.specs.Course.{IsCatalogFile, IsRuleFile}
-use Rattle.mix_top.proofs.StopLaws.{cause_before}
+use Rattle.mix_place.specs.declared.refusal.FileFault.{FileFault}
+use Rattle.mix_place.specs.declared.refusal.FileFault.TheVariants.{Unread, TooLong, Document, Csv, Json, Catalog, Script, View, Plan}
+use Rattle.mix_place.specs.Causes.{IsNoRule, IsRead}
+use Rattle.mix_place.specs.Files.{IsCatalogFile, IsRuleFile}
+use Rattle.mix_place.proofs.LoadLaws.{cause_before}
 use Rattle.mix_explain.specs.Answers.{IsSteady}
 use Rattle.mix_explain.specs.Explained.{Explains, ExplainsRefusal, IsSaid, ReportsRule}
 

@@ -5,9 +5,9 @@ use Rattle.mix_catalog.specs.declared.source.SourceSpec.{SourceSpec}
 use Rattle.xmas_rule.specs.RuleMade.{rule_of}
 use Rattle.xmas_rule.specs.Rules.{IsAccepted}
 use Rattle.xmas_rule.specs.declared.rule.Rule.{Rule}
-use Rattle.mix_top.specs.declared.refusal.FileFault.{FileFault}
-use Rattle.mix_top.specs.Causes.{IsNoCatalog, IsNoRule}
-use Rattle.mix_top.specs.Course.{IsCatalogFile, IsRuleFile}
+use Rattle.mix_place.specs.declared.refusal.FileFault.{FileFault}
+use Rattle.mix_place.specs.Causes.{IsNoCatalog, IsNoRule}
+use Rattle.mix_place.specs.Files.{IsCatalogFile, IsRuleFile}
 use Rattle.mix_explain.specs.declared.explained.Answer.{Answer}
 use Rattle.mix_explain.specs.declared.explained.Answer.TheVariants.{Accepted, Refused}
 use Rattle.mix_explain.specs.declared.explained.Explained.{Explained}

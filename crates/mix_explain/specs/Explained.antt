@@ -13,10 +13,10 @@ use Rattle.plan_rewrite.specs.Rewritten.{plan_for}
 use Rattle.refusal_words.specs.Catalog.{ExplainsAt, IsFaultPlace}
 use Rattle.refusal_words.specs.View.{ExplainsView}
 use Rattle.view_report.specs.Report.{Reports}
-use Rattle.mix_top.specs.declared.refusal.FileFault.{FileFault}
-use Rattle.mix_top.specs.declared.refusal.FileFault.TheVariants.{Unread, TooLong, Document, Csv, Json, Catalog, Script, View, Plan as PlanText}
-use Rattle.mix_top.specs.Causes.{IsNoCatalog, IsNoRule, IsRead, IsRefusalLine, status_of}
-use Rattle.mix_top.specs.Course.{IsCatalogFile, IsRefused, IsRuleFile}
+use Rattle.mix_place.specs.declared.refusal.FileFault.{FileFault}
+use Rattle.mix_place.specs.declared.refusal.FileFault.TheVariants.{Unread, TooLong, Document, Csv, Json, Catalog, Script, View, Plan as PlanText}
+use Rattle.mix_place.specs.Causes.{IsNoCatalog, IsNoRule, IsRead, IsRefusalLine, status_of}
+use Rattle.mix_place.specs.Files.{IsCatalogFile, IsRefused, IsRuleFile}
 use Rattle.mix_explain.specs.declared.explained.Explained.{Explained}
 
 -- an explanation is the line with which a file is refused for a fault, and given words after it

@@ -3,14 +3,15 @@ ghost use Rattle.std.specs.Prelude.{◌≡◌, ◌≤◌, Some, None, IfSome, ma
 ghost use Rattle.mix_io.specs.Views.{FilesView, SinkView, KeepsFiles};
 ghost use Rattle.mix_top.specs.Ends.{Ends};
 ghost use Rattle.mix_top.specs.FilesRead.{FileMayRead};
-ghost use Rattle.mix_top.specs.Reading.{ReadsAmong};
+ghost use Rattle.mix_place.specs.Reading.{ReadsAmong};
 ghost use Rattle.mix_explain.specs.Explained.{Explains};
 ghost use Rattle.mix_explain.specs.Words.{ExplainMayRead, ExplainWordsEnd, explained_of};
 
 use crate::explained::Explained;
 use crate::view::{Explaining, explained};
 use mix_io::{Files, Sink};
-use mix_top::{Stop, refuse_words, write_lines};
+use mix_place::Stop;
+use mix_top::{refuse_words, write_lines};
 use std::alloc::Global;
 
 // The view and the catalog that are to be explained, where words ask for that.

@@ -3,7 +3,7 @@ ghost use Rattle.std.specs.Prelude.{◌≡◌, ◌++◌, IfOk};
 ghost use Rattle.mix_explain.specs.Explained.{IsRefusalOf, IsUnreadFor};
 
 use mix_io::ReadWhole;
-use mix_top::{FileFault, Refusal, Stop, refused};
+use mix_place::{FileFault, Refusal, Stop, refused};
 use std::alloc::{AllocError, Global};
 
 /// What an explanation comes to: the exit status, and the lines that are to be written.

@@ -7,13 +7,13 @@ ghost use Rattle.mix_explain.specs.Answers.{IsCatalogAnswer, IsViewAnswer};
 use crate::explained::{Answer, refusal_with, unread};
 use mix_catalog::{Catalog, read_catalog};
 use mix_io::{Files, read_whole};
-use mix_top::FileFault;
+use mix_place::FileFault;
 use refusal_words::{catalog_words, view_words};
 use std::alloc::{AllocError, Global};
 use xmas_read::read_rule;
 use xmas_rule::Rule;
 
-/// The sources of the catalog that a file spells, but for its views, or why the file is refused. `Err`: memory.
+/// The sources of the catalog that a file spells, or why the file is refused. `Err`: memory.
 pub fn read_catalog_file<F: Files>(
     alloc: Global,
     files: &mut F,
@@ -28,7 +28,7 @@ pub fn read_catalog_file<F: Files>(
         Err(fault) => return Ok(Answer::Refused(unread(alloc, path, fault)?)),
     };
     match read_catalog(alloc, &bytes) {
-        Ok(catalog) => Ok(Answer::Accepted(catalog.base(alloc)?)),
+        Ok(catalog) => Ok(Answer::Accepted(catalog)),
         Err(fault) => {
             let words = catalog_words(alloc, &bytes, fault)?;
             let explained = refusal_with(alloc, path, FileFault::Catalog(fault), &words)?;

@@ -5,14 +5,14 @@ ghost use Rattle.xmas_read.specs.Results.{names_of_sources};
 ghost use Rattle.xmas_rule.specs.RuleMade.{rule_of};
 ghost use Rattle.xmas_rule.specs.Rules.{IsAccepted};
 ghost use Rattle.mix_top.specs.FilesRead.{FileMayRead};
-ghost use Rattle.mix_top.specs.Reading.{ReadsAmong};
+ghost use Rattle.mix_place.specs.Reading.{ReadsAmong};
 ghost use Rattle.mix_explain.specs.Explained.{Explains, ReportsRule};
 
 use crate::explained::{Answer, Explained};
 use crate::reading::{read_catalog_file, read_view_file};
 use mix_catalog::Catalog;
 use mix_io::Files;
-use mix_top::source_names;
+use mix_place::source_names;
 use plan_rewrite::plan_view;
 use std::alloc::{AllocError, Global};
 use view_report::view_report;

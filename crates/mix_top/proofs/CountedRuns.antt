@@ -7,15 +7,16 @@ use Rattle.mix_lines.specs.declared.fault.LinesFault.TheVariants as lines
 use Rattle.mix_reach.specs.Stores.{StoresView}
 use Rattle.plan_core.specs.PlanMade.{plan_value}
 use Rattle.mix_top.specs.declared.counting.Counts.{Counts}
-use Rattle.mix_top.specs.declared.refusal.Outcome.{Outcome}
-use Rattle.mix_top.specs.declared.refusal.Stop.{Stop}
-use Rattle.mix_top.specs.declared.refusal.Stop.TheVariants.{Refused, SinkFailed, OutOfMemory}
+use Rattle.mix_top.specs.declared.outcome.Outcome.{Outcome}
+use Rattle.mix_place.specs.declared.refusal.Stop.{Stop}
+use Rattle.mix_place.specs.declared.refusal.Stop.TheVariants.{Refused, SinkFailed, OutOfMemory}
 use Rattle.mix_top.specs.declared.asked.Asked.{Asked}
 use Rattle.mix_top.specs.Counting.{IsCounted, IsCountStop, lines_of_counts}
 use Rattle.mix_top.specs.Counts.{class_over}
 use Rattle.mix_top.specs.Course.{lines_of_count}
 use Rattle.mix_top.specs.Ends.{TookPrefix}
-use Rattle.mix_top.specs.Running.{IsLinesEnd, LinesOver, Placed, by_fills, question}
+use Rattle.mix_top.specs.Running.{IsLinesEnd, LinesOver, by_fills, question}
+use Rattle.mix_place.specs.Placed.{Placed}
 use Rattle.mix_top.specs.Stops.{IsCut, IsCutShort, IsDoneAs, IsStopFrom, outcome_status, stop_for}
 use Rattle.mix_top.proofs.Further.{TookOn, answered_on}
 use Rattle.mix_top.proofs.Lines.{cut_last, cut_on, first_prefix, nothing_more}

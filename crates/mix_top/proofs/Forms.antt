@@ -2,26 +2,17 @@
 use Rattle.std.proofs.Common.{◌≡◌, ◌⊎◌, inl, inr, ℕ, true, List, Result, OnOk, IfOk, IfErr, refl, sym, subst}
 use Rattle.mix_io.specs.Views.{FilesView, SinkView}
 use Rattle.mix_top.specs.Commands.{Command, asks_stores}
-use Rattle.mix_top.specs.Course.{IsCourse, Reads, Runs}
-use Rattle.mix_top.specs.FilesRead.{FileMayRead, MayRead, RunMayRead}
+use Rattle.mix_top.specs.Course.{IsCourse, Runs}
+use Rattle.mix_top.specs.FilesRead.{MayRead, RunMayRead}
 use Rattle.mix_top.specs.Outside.{Outside}
 use Rattle.mix_top.specs.Running.{given_by, run_lines}
 use Rattle.mix_top.specs.Stops.{IsDone, IsDoneAs, IsStop, IsStopFrom, unmarked_end}
-use Rattle.mix_top.specs.Words.{rule_command, run_command}
-use Rattle.mix_top.specs.Written.{rule_lines}
-use Rattle.mix_top.specs.declared.reading.RuleForm.{RuleForm}
-use Rattle.mix_top.specs.declared.reading.RuleForm.TheVariants.{Canonical, Plan}
-use Rattle.mix_top.specs.declared.refusal.Outcome.{Outcome}
-use Rattle.mix_top.specs.declared.refusal.Stop.{Stop}
+use Rattle.mix_top.specs.Words.{run_command}
+use Rattle.mix_top.specs.declared.outcome.Outcome.{Outcome}
+use Rattle.mix_place.specs.declared.refusal.Stop.{Stop}
 use Rattle.mix_top.specs.declared.running.RunForm.{RunForm}
 use Rattle.mix_top.specs.declared.running.RunForm.TheVariants.{Answers, Counts, Executed, Looped}
 use Rattle.mix_top.proofs.RunCourse.{unmarked_done, unmarked_stopped}
-
--- what is so of the course of a view's reading is so of its command's
-pub rule_course : (P : (ℕ → List ℕ → Type 0) → Type 0) (before after : Outside) (s0 s1 : SinkView) (form : RuleForm) (view catalog : List ℕ)
-    → P (Reads (rule_lines form) before.files after.files view catalog) → P (IsCourse before after (rule_command form view catalog) s0 s1)
-rule_course P before after s0 s1 Canonical view catalog h = h
-rule_course P before after s0 s1 Plan view catalog h = h
 
 -- what is so of two forms is so of a form that is one of them
 pub of_either : (P : RunForm → Type 0) (form one other : RunForm) → (form ≡ one) ⊎ (form ≡ other) → P one → P other → P form
@@ -41,11 +32,6 @@ run_course P before after s0 s1 Answers file catalog script h = h
 run_course P before after s0 s1 Counts file catalog script h = h
 run_course P before after s0 s1 Executed file catalog script h = h
 run_course P before after s0 s1 Looped file catalog script h = h
-
--- what is so of what a view's reading may read is so of its command's, in each form
-pub rule_may_read : (P : (List ℕ → Type 0) → Type 0) (files : FilesView) (form : RuleForm) (view catalog : List ℕ) → P (FileMayRead files view catalog) → P (MayRead files (rule_command form view catalog))
-rule_may_read P files Canonical view catalog h = h
-rule_may_read P files Plan view catalog h = h
 
 -- what is so of what a run may read is so of its command's, in each form
 pub run_may_read : (P : (List ℕ → Type 0) → Type 0) (files : FilesView) (form : RunForm) (file catalog script : List ℕ) → P (RunMayRead (given_by form) files file catalog script)

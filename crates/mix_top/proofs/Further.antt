@@ -15,8 +15,8 @@ use Rattle.mix_top.specs.Ends.{Ends, EndsFrom, TookPrefix}
 use Rattle.mix_top.specs.Outside.{Outside}
 use Rattle.mix_top.specs.Question.{Question}
 use Rattle.mix_top.specs.Stops.{IsStopFrom}
-use Rattle.mix_top.specs.declared.refusal.Refusal.{Refusal}
-use Rattle.mix_top.specs.declared.refusal.Stop.TheVariants.{Refused}
+use Rattle.mix_place.specs.declared.refusal.Refusal.{Refusal}
+use Rattle.mix_place.specs.declared.refusal.Stop.TheVariants.{Refused}
 use Rattle.mix_top.proofs.Lines.{prefix_on, nothing_more, nothing_of}
 
 -- a sink took some lines more
@@ -44,6 +44,7 @@ module _ (before mid after : SinkView) (on : TookOn mid after) where
     allowed = h.allowed;
     counted = h.counted;
     counted_far = h.counted_far;
+    counted_view = h.counted_view;
     status_is = h.status_is;
     pages = h.pages;
     cost = λ e. frugal_on q fills h.answers (h.cost e);

@@ -1,5 +1,5 @@
 -- How the lines of a run over sources end.
-use Rattle.std.proofs.Common.{◌≡◌, ◌∙◌, ◌+◌, ◌≤◌, IsTrue, inl, inr, ℕ, Bool, true, false, cond, List, [], ◌∷◌, ◌++◌, Result, Ok, Err, refl, ap, sym, subst, arith, length, take, take_all, append_assoc}
+use Rattle.std.proofs.Common.{Option, ◌≡◌, ◌∙◌, ◌+◌, ◌≤◌, IsTrue, inl, inr, ℕ, Bool, true, false, cond, List, [], ◌∷◌, ◌++◌, Result, Ok, Err, refl, ap, sym, subst, arith, length, take, take_all, append_assoc}
 use Rattle.mix_base.proofs.Lists.{append_nil, take_append}
 use Rattle.mix_io.specs.Views.{FilesView, SinkView}
 use Rattle.mix_io.specs.Contents.{Appends}
@@ -24,8 +24,12 @@ use Rattle.mix_top.specs.Answered.{IsAnswered, all_told, in_order}
 use Rattle.mix_top.specs.Ends.{TookPrefix}
 use Rattle.mix_top.specs.declared.asked.Asked.{Asked}
 use Rattle.mix_top.specs.Question.{Question, IsPlanDocument}
-use Rattle.mix_top.specs.Running.{ArePlaced, IsLinesEnd, IsPlanOver, LinesOver, by_fills, documents_of, placed_of, question}
-use Rattle.mix_top.proofs.Answering.{Frugal, IsAnswering, IsManner, answering, prefix_of, unanswered}
+use Rattle.mix_place.specs.Placed.{ArePlaced}
+use Rattle.mix_top.specs.Running.{IsLinesEnd, LinesOver, by_fills, all_documents, placed_of, question}
+use Rattle.mix_place.specs.Plans.{IsPlanOver}
+use Rattle.mix_top.proofs.Answering.{Frugal, IsAnswering, IsManner, IsOver, answering, prefix_of, unanswered}
+use Rattle.mix_top.proofs.Sums.{none_counted}
+use Rattle.plan_core.specs.declared.plan.Plan.{Plan}
 use Rattle.mix_top.proofs.Lines.{nothing_of}
 use Rattle.mix_top.proofs.ReadTables.{plan_within}
 use Rattle.mix_top.specs.Stops.{IsDoneAlong, end_of, outcome_of, outcome_status}
@@ -58,11 +62,8 @@ in_order_is_manner q = record {
   more = λ answers more. lines_more (names_of_sources q.sources) answers more q.steps;
 }
 
-module _ (files : FilesView) (a b : Reaching) (came : CameFrom a b) (asked : Asked) (mounted : ArePlaced files (plan_value asked.plan).ops asked.catalog (placed_of a))
-    (over : IsPlanOver asked.catalog (plan_value asked.plan)) (st : BenchState) (same : ops_of st ≡ (plan_value asked.plan).ops)
-    (docs_are : documents st ≡ documents_of (stores_of a) (placed_of a)) (ahead : all_told (stores_of a) (plan_value asked.plan).ops asked.catalog ≡ true → IsTrue (forward st)) (t : LabelledTree)
-    (document_is : all_told (stores_of a) (plan_value asked.plan).ops asked.catalog ≡ true → IsDocument st t) (unasked : a.fills ≡ 0) (few : b.mounted.tables.pages ≤ a.mounted.tables.pages + b.fills) (before after : SinkView)
-    (is_document : IsPlanDocument (documents_of (stores_of a) (placed_of a)) (plan_value asked.plan).ops t) where
+module _ (old new : View) (a b : Reaching) (views : List (Option Plan)) (asked : Asked) (st : BenchState) (t : LabelledTree) (over : IsOver old new st a b (question (stores_of a) (placed_of a views) asked t))
+    (few : b.mounted.tables.pages ≤ a.mounted.tables.pages + b.fills) (before after : SinkView) (is_document : IsPlanDocument (all_documents (stores_of a) (placed_of a views)) (plan_value asked.plan).ops t) where
   -- the names of the sources of the catalog
   abbrev names : List (List ℕ)
   names = names_of_sources asked.catalog
@@ -73,23 +74,23 @@ module _ (files : FilesView) (a b : Reaching) (came : CameFrom a b) (asked : Ask
 
   -- the question of the run: its script on the document, over the sources
   abbrev q : Question
-  q = question (stores_of a) (placed_of a) asked t
+  q = question (stores_of a) (placed_of a views) asked t
 
   -- answers that a run on the course of the plan gives
   abbrev Are : List Answer → Type 0
-  Are answers = IsRun (plan_course st) (view_of a).faults (view_of b).faults steps answers
+  Are answers = IsRun (plan_course st) old.faults new.faults steps answers
 
   -- answers that ask for no more fills than the course of the plan allows
   abbrev Cost : List Answer → Type 0
-  Cost answers = IsLazy (plan_course st) (view_of a).fills (view_of b).fills steps answers
+  Cost answers = IsLazy (plan_course st) old.fills new.fills steps answers
 
   -- the lines that answer the script, by the fills that were asked
   abbrev Answers : SinkView → SinkView → ℕ → List ℕ → Type 0
-  Answers = LinesOver (by_fills b.fills) (stores_of a) (stores_of b) (placed_of a) asked
+  Answers = LinesOver (by_fills b.fills) (stores_of a) (stores_of b) (placed_of a views) asked
 
   -- the lines of the run, written in the order of the steps, answer the question
-  run : IsAnswering (in_order q) a b asked.catalog (plan_value asked.plan).ops steps st t before after
-  run = answering files a b came asked.catalog (plan_value asked.plan).ops steps mounted (plan_within asked.catalog (plan_value asked.plan) over) (in_order q) st same docs_are ahead t document_is unasked few before after (in_order_is_manner q)
+  run : IsAnswering (in_order q) old new a b q st before after
+  run = answering (in_order q) old new st a b q over few before after (in_order_is_manner q)
 
   -- where the lines of some answers were written, no more was asked than their tolls
   spent : (answers : List Answer) → Cost answers → Appends before.written after.written (answer_lines names answers steps) → Frugal (in_order q) a b q before after answers
@@ -131,16 +132,16 @@ module _ (files : FilesView) (a b : Reaching) (came : CameFrom a b) (asked : Ask
       Is n = IsAnswered (stores_of a) (stores_of b) q b.fills before after n (answer_lines names w.answers steps)
 
   -- the lines of a run over sources came to their end, or were cut short
-  pub lines_end : (r : Result Bool LinesFault) → Ends (plan_course st) (view_of a) (view_of b) names steps before after r → IsLinesEnd Answers before after (end_of r)
+  pub lines_end : (r : Result Bool LinesFault) → Ends (plan_course st) old new names steps before after r → IsLinesEnd Answers before after (end_of r)
   lines_end (Ok marked) w = whole marked w
   lines_end (Err lines_fault.SinkFailed) w = (w.0, within w.1)
   lines_end (Err lines_fault.OutOfMemory) (inl w) = between w
   lines_end (Err lines_fault.OutOfMemory) (inr w) = within w
 
 -- where memory ran out before the first step of a run over sources of which no fill was asked, nothing was written of the run's lines
-pub lines_unbegun : (a b : Reaching) → CameFrom a b → (asked : Asked) (t : LabelledTree) → IsPlanDocument (documents_of (stores_of a) (placed_of a)) (plan_value asked.plan).ops t → b.fills ≡ 0
-    → b.mounted.tables.pages ≤ a.mounted.tables.pages + b.fills → (before : SinkView) → IsLinesEnd (LinesOver (by_fills b.fills) (stores_of a) (stores_of b) (placed_of a) asked) before before (Err lines_fault.OutOfMemory)
-lines_unbegun a b came asked t is_document none few before =
-    let q = question (stores_of a) (placed_of a) asked t in
-    let f = unanswered (in_order q) a b came asked.catalog (plan_value asked.plan).ops asked.steps.items t none few before (in_order_is_manner q) ([], refl) in
+pub lines_unbegun : (a b : Reaching) → CameFrom a b → (views : List (Option Plan)) (asked : Asked) (t : LabelledTree) → IsPlanDocument (all_documents (stores_of a) (placed_of a views)) (plan_value asked.plan).ops t → b.fills ≡ 0
+    → b.mounted.tables.pages ≤ a.mounted.tables.pages + b.fills → (before : SinkView) → IsLinesEnd (LinesOver (by_fills b.fills) (stores_of a) (stores_of b) (placed_of a views) asked) before before (Err lines_fault.OutOfMemory)
+lines_unbegun a b came views asked t is_document none few before =
+    let q = question (stores_of a) (placed_of a views) asked t in
+    let f = unanswered (in_order q) a b q (none_counted a b came q) none few before (in_order_is_manner q) ([], refl) in
     (f.status, f.lines, (t, is_document, f.is), nothing_of before.written f.lines)

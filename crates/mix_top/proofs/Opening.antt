@@ -1,5 +1,5 @@
 -- Sources that are opened over stores, and that hand them back.
-use Rattle.std.proofs.Common.{◌≡◌, ◌∙◌, List, ap}
+use Rattle.std.proofs.Common.{◌≡◌, ◌∙◌, List, Option, ap}
 use Rattle.far_keep.specs.Views.{FarsView}
 use Rattle.mix_mount.specs.declared.mount.Mount.{Mount}
 use Rattle.mix_mount.specs.declared.mounted.Mounted.{Mounted}
@@ -10,11 +10,13 @@ use Rattle.mix_reach.specs.declared.reached.Reached.{Reached}
 use Rattle.mix_reach.specs.declared.site.Site.{Site}
 use Rattle.mix_reach.specs.declared.stores.Stores.{Stores}
 use Rattle.table_keep.specs.Views.{TablesView}
-use Rattle.mix_top.specs.Running.{Placed, placed_of}
+use Rattle.plan_core.specs.declared.plan.Plan.{Plan}
+use Rattle.mix_place.specs.Placed.{Placed}
+use Rattle.mix_top.specs.Running.{placed_of}
 
--- documents and their sites, as sources that were made ready
-abbrev at_sites : List Mount → List Site → Placed
-at_sites docs sites = record { docs = docs; sites = sites }
+-- documents, their sites and views over them, as sources that were made ready
+abbrev at_sites : List (Option Plan) → List Mount → List Site → Placed
+at_sites views docs sites = record { docs = docs; sites = sites; views = views }
 
 -- tables and sources of other machines, as what stores mean
 abbrev beside : TablesView → FarsView → StoresView
@@ -22,8 +24,8 @@ beside tables fars = record { tables = tables; fars = fars }
 
 module _ {T R : Type 0} (view : T → TablesView) (far : R → FarsView) where
   -- sources that were opened are placed as what was made ready
-  pub placed_new : (place : Placed) (mounted : Mounted T) (r : Reached T R) → docs_of mounted ≡ place.docs → r.mounted ≡ mounted → r.sites.items ≡ place.sites → placed_of (reaching_in view far r) ≡ place
-  placed_new place mounted r docs is sites = ap (λ (ds : List Mount). at_sites ds r.sites.items) (ap (λ (m : Mounted T). docs_of m) is ∙ docs) ∙ ap (λ (ss : List Site). at_sites place.docs ss) sites
+  pub placed_new : (place : Placed) (mounted : Mounted T) (r : Reached T R) → docs_of mounted ≡ place.docs → r.mounted ≡ mounted → r.sites.items ≡ place.sites → placed_of (reaching_in view far r) place.views ≡ place
+  placed_new place mounted r docs is sites = ap (λ (ds : List Mount). at_sites place.views ds r.sites.items) (ap (λ (m : Mounted T). docs_of m) is ∙ docs) ∙ ap (λ (ss : List Site). at_sites place.views place.docs ss) sites
 
   -- sources that were opened are over the stores that were given
   pub stores_new : (stores : Stores T R) (mounted : Mounted T) (r : Reached T R) → tables_of mounted ≡ stores.tables → r.mounted ≡ mounted → r.fars ≡ stores.fars

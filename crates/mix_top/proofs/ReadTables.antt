@@ -15,8 +15,8 @@ use Rattle.plan_core.specs.Valid.{HasSource, ReadsSource}
 use Rattle.lazy_binding.specs.Cursors.{IsRead, source_number}
 use Rattle.lazy_binding.specs.World.{reads, shape_reads as passes}
 use Rattle.mix_top.specs.Answered.{is_far_told, is_spec_told, is_table_told, told_from}
-use Rattle.mix_top.specs.Documents.{far_in}
-use Rattle.mix_top.specs.Running.{IsPlanOver}
+use Rattle.mix_place.specs.Documents.{far_in}
+use Rattle.mix_place.specs.Plans.{IsPlanOver}
 use Rattle.view_class.specs.Reads.{op_reads, reads_source, shape_reads}
 
 -- the source that a shape reads passes a test which all sources pass that are read
@@ -79,19 +79,19 @@ read_told : (b c : Bool) → b ≡ true → not b || c ≡ true → c ≡ true
 read_told true c e h = h
 read_told false c e h = (let z : false ≡ true = e in cc)
 
--- where all documents that a plan reads are told, each is
-pub spec_told_at : (stores : StoresView) (ops : List Operator) (n : ℕ) (sources : List SourceSpec) → told_from stores ops n sources ≡ true → (s : ℕ) (spec : SourceSpec) → slice_get sources s ≡ Some spec
-    → reads_source ops (n + s) ≡ true → is_spec_told stores spec ≡ true
-spec_told_at stores ops n [] h s spec e read = absurd (let w = slice_get_within [] s spec e in omega (arith, w))
-spec_told_at stores ops n (x ∷ xs) h zero spec e read =
-    let parts = and_parts (not (reads_source ops n) || is_spec_told stores x) (told_from stores ops (n + 1) xs) h in
+-- where all documents of chosen sources are told, each is
+pub spec_told_at : (stores : StoresView) (chosen : ℕ → Bool) (n : ℕ) (sources : List SourceSpec) → told_from stores chosen n sources ≡ true → (s : ℕ) (spec : SourceSpec) → slice_get sources s ≡ Some spec
+    → chosen (n + s) ≡ true → is_spec_told stores spec ≡ true
+spec_told_at stores chosen n [] h s spec e read = absurd (let w = slice_get_within [] s spec e in omega (arith, w))
+spec_told_at stores chosen n (x ∷ xs) h zero spec e read =
+    let parts = and_parts (not (chosen n) || is_spec_told stores x) (told_from stores chosen (n + 1) xs) h in
     let place : n + 0 ≡ n = omega arith in
-    let this : reads_source ops n ≡ true = subst (λ (k : ℕ). reads_source ops k ≡ true) place read in
-    subst (λ (y : SourceSpec). is_spec_told stores y ≡ true) (same_Some x spec e) (read_told (reads_source ops n) (is_spec_told stores x) this parts.0)
-spec_told_at stores ops n (x ∷ xs) h (suc s) spec e read =
-    let parts = and_parts (not (reads_source ops n) || is_spec_told stores x) (told_from stores ops (n + 1) xs) h in
+    let this : chosen n ≡ true = subst (λ (k : ℕ). chosen k ≡ true) place read in
+    subst (λ (y : SourceSpec). is_spec_told stores y ≡ true) (same_Some x spec e) (read_told (chosen n) (is_spec_told stores x) this parts.0)
+spec_told_at stores chosen n (x ∷ xs) h (suc s) spec e read =
+    let parts = and_parts (not (chosen n) || is_spec_told stores x) (told_from stores chosen (n + 1) xs) h in
     let place : n + suc s ≡ n + 1 + s = omega arith in
-    spec_told_at stores ops (n + 1) xs parts.1 s spec e (subst (λ (k : ℕ). reads_source ops k ≡ true) place read)
+    spec_told_at stores chosen (n + 1) xs parts.1 s spec e (subst (λ (k : ℕ). chosen k ≡ true) place read)
 
 -- where the document of a source is told, its rows are where it is a table, and its document where it is at another machine
 pub told_parts : (stores : StoresView) (spec : SourceSpec) → is_spec_told stores spec ≡ true → (is_table_told stores.tables (declared_in spec.kind) ≡ true) × (is_far_told stores.fars (far_in spec.kind) ≡ true)

@@ -22,9 +22,12 @@ use Rattle.mix_script.proofs.Answering.{unmarked}
 use Rattle.plan_core.specs.Plans.{Operator}
 use Rattle.xmas_read.specs.Results.{names_of_sources}
 use Rattle.mix_top.specs.Answered.{MayFail, RunsWithoutTablesAreUnmarked, all_told, is_far_told, is_spec_told, is_table_told, told_from}
-use Rattle.mix_top.specs.Documents.{far_in}
-use Rattle.mix_top.proofs.SourceKinds.{each_is_one, file_is_apart, view_is_apart}
+use Rattle.mix_place.specs.Documents.{far_in}
+use Rattle.mix_place.proofs.SourceKinds.{each_is_one, file_is_apart, view_is_apart}
 use Rattle.view_class.specs.Reads.{reads_source}
+use Rattle.std.specs.List.{list_any}
+use Rattle.std.proofs.lemmas.Bool.{or_left}
+use Rattle.mix_place.specs.Views.{needs, reads_lower}
 
 -- an answer that is no fault is no fault either where a name may hold no place
 held_quiet : (o : Option (List ℕ)) (a : Answer) → mark_of a ≡ None → mark_of (if_held o a) ≡ None
@@ -96,35 +99,43 @@ told_head stores spec true h =
     (ap (λ (x : Option Declared). is_table_told stores.tables x) is.0) (ap (λ (x : Option FarSource). is_far_told stores.fars x) is.1)
 told_head stores spec false h = refl
 
--- where no source that the plan reads is a table or at another machine, there is nothing that isn't told
-nothing_untold : (stores : StoresView) (ops : List Operator) (n : ℕ) (sources : List SourceSpec)
-    → ((s : ℕ) (spec : SourceSpec) → slice_get sources s ≡ Some spec → reads_source ops (n + s) ≡ true → (declared_in spec.kind ≡ None) × (far_in spec.kind ≡ None)) → told_from stores ops n sources ≡ true
-nothing_untold stores ops n [] h = refl
-nothing_untold stores ops n (x ∷ xs) h =
+-- where no chosen source is a table or at another machine, there is nothing that isn't told
+nothing_untold : (stores : StoresView) (chosen : ℕ → Bool) (n : ℕ) (sources : List SourceSpec)
+    → ((s : ℕ) (spec : SourceSpec) → slice_get sources s ≡ Some spec → chosen (n + s) ≡ true → (declared_in spec.kind ≡ None) × (far_in spec.kind ≡ None)) → told_from stores chosen n sources ≡ true
+nothing_untold stores chosen n [] h = refl
+nothing_untold stores chosen n (x ∷ xs) h =
     let place : n ≡ n + 0 = omega arith in
-    and_both (not (reads_source ops n) || is_spec_told stores x) (told_from stores ops (n + 1) xs)
-    (told_head stores x (reads_source ops n) (λ read. h 0 x refl (subst (λ (k : ℕ). reads_source ops k ≡ true) place read)))
-    (nothing_untold stores ops (n + 1) xs
-    (λ s spec at read. h (suc s) spec at (let next : n + 1 + s ≡ n + suc s = omega arith in subst (λ (k : ℕ). reads_source ops k ≡ true) next read)))
+    and_both (not (chosen n) || is_spec_told stores x) (told_from stores chosen (n + 1) xs)
+    (told_head stores x (chosen n) (λ read. h 0 x refl (subst (λ (k : ℕ). chosen k ≡ true) place read)))
+    (nothing_untold stores chosen (n + 1) xs
+    (λ s spec at read. h (suc s) spec at (let next : n + 1 + s ≡ n + suc s = omega arith in subst (λ (k : ℕ). chosen k ≡ true) next read)))
 
--- a source that the plan reads is no table and at no other machine, where no source that it reads may fail
-is_file : (ops : List Operator) (sources : List SourceSpec) → ((s : ℕ) → MayFail ops sources s → ⊥) → (s : ℕ) (spec : SourceSpec) → slice_get sources s ≡ Some spec → reads_source ops (0 + s) ≡ true
+-- a chosen source is no table and at no other machine, where no chosen source may fail
+is_file : (chosen : ℕ → Bool) (sources : List SourceSpec) → ((s : ℕ) → MayFail chosen sources s → ⊥) → (s : ℕ) (spec : SourceSpec) → slice_get sources s ≡ Some spec → chosen (0 + s) ≡ true
     → (declared_in spec.kind ≡ None) × (far_in spec.kind ≡ None)
-is_file ops sources none s spec at read =
+is_file chosen sources none s spec at read =
     let place : 0 + s ≡ s = omega arith in
-    let here = subst (λ (k : ℕ). reads_source ops k ≡ true) place read in
+    let here = subst (λ (k : ℕ). chosen k ≡ true) place read in
     elim (each_is_one spec.kind) as (λ _. (declared_in spec.kind ≡ None) × (far_in spec.kind ≡ None)) [
       | inl e ↦ file_is_apart spec.kind e
       | inr (inl found) ↦ absurd (none s (inl (found.0, record { spec = spec; there = at; read = here; declares = found.1 })))
-      | inr (inr (inl found)) ↦ absurd (none s (inr (found.0, record { spec = spec; there = at; read = here; declares = found.1 })))
+      | inr (inr (inl found)) ↦ absurd (none s (inr (inl (found.0, record { spec = spec; there = at; read = here; declares = found.1 }))))
       | inr (inr (inr view)) ↦ view_is_apart spec.kind view
     ]
 
--- a run of a plan that reads no table and no source of another machine
+-- a source that may fail among those of one choice may fail among those of a wider one
+may_wider : (A B : ℕ → Bool) → ((s : ℕ) → A s ≡ true → B s ≡ true) → (sources : List SourceSpec) (s : ℕ) → MayFail A sources s → MayFail B sources s
+may_wider A B w sources s (inl t) = inl (t.0, record { spec = t.1.spec; there = t.1.there; read = w s t.1.read; declares = t.1.declares })
+may_wider A B w sources s (inr (inl f)) = inr (inl (f.0, record { spec = f.1.spec; there = f.1.there; read = w s f.1.read; declares = f.1.declares }))
+may_wider A B w sources s (inr (inr v)) = inr (inr (record { spec = v.spec; there = v.there; read = w s v.read; view = v.view }))
+
+-- a run of a plan that needs no table and no source of another machine, and reads no view
 pub without_tables : RunsWithoutTablesAreUnmarked
 without_tables before after q fills sink sink' status lines none is =
-    let faultless = unmarked false (MayFail q.ops q.sources) no_names is.answers q.steps is.allowed (λ s may. absurd (none s may)) in
-    let told : all_told before q.ops q.sources ≡ true = nothing_untold before q.ops 0 q.sources (is_file q.ops q.sources none) in (
+    let chosen = needs q.ops q.lower in
+    let wider = may_wider (reads_source q.ops) chosen (λ s read. or_left (reads_source q.ops s) (list_any (reads_lower s) q.lower) read) q.sources in
+    let faultless = unmarked false (MayFail (reads_source q.ops) q.sources) no_names is.answers q.steps is.allowed (λ s may. absurd (none s (wider s may))) in
+    let told : all_told before chosen q.sources ≡ true = nothing_untold before chosen 0 q.sources (is_file chosen q.sources none) in (
       is.status_is ∙ ap (λ b. cond b 1 0) faultless,
       (is.told told).1 ∙ unmarked_transcript q.tree (names_of_sources q.sources) no_names is.answers q.steps faultless,
     )

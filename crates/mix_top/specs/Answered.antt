@@ -1,7 +1,9 @@
 -- What a run comes to whose files are all accepted: the answers to its steps, and its lines.
-use Rattle.std.specs.Prelude.{◌≡◌, ◌⊎◌, ◌≤◌, ◌++◌, ℕ, ◌+◌, Bool, true, false, ◌&&◌, ◌||◌, not, cond, IsTrue, List, [], ◌∷◌, Option, Some, None, is_some, length, slice_get}
+use Rattle.std.specs.Prelude.{◌≡◌, ◌⊎◌, ◌≤◌, ◌++◌, ℕ, ◌+◌, ◌*◌, Bool, true, false, ◌&&◌, ◌||◌, not, cond, IsTrue, List, [], ◌∷◌, Option, Some, None, is_some, length, slice_get}
 use Rattle.mix_base.specs.Counts.{HasRisenBy}
 use Rattle.mix_catalog.specs.declared.source.SourceSpec.{SourceSpec}
+use Rattle.mix_catalog.specs.Grammar.{is_view}
+use Rattle.mix_catalog.specs.Sources.{base_of}
 use Rattle.mix_io.specs.Views.{SinkView}
 use Rattle.mix_io.specs.Contents.{Appends}
 use Rattle.far_keep.specs.Views.{FarsView}
@@ -17,35 +19,64 @@ use Rattle.mix_session.specs.Stepped.{act_toll_by}
 use Rattle.mix_session.specs.Walks.{place_toll}
 use Rattle.plan_core.specs.Plans.{Operator}
 use Rattle.xmas_read.specs.Results.{names_of_sources}
-use Rattle.mix_top.specs.Documents.{far_in}
-use Rattle.mix_top.specs.Question.{Question}
+use Rattle.mix_place.specs.Documents.{far_in}
+use Rattle.mix_top.specs.Question.{AreCheap, Question}
+use Rattle.mix_place.specs.Placed.{view_number}
+use Rattle.mix_place.specs.Views.{lower_at, needs}
+use Rattle.view_stack.specs.Stacks.{sum_below}
 use Rattle.view_class.specs.Reads.{reads_source}
 
--- a plan's operators read the source of this number, which is this declared table
-pub record IsTable (ops : List Operator) (sources : List SourceSpec) (s : ℕ) (d : Declared) : Type 0 where
+-- by a choice of sources the source of this number is chosen, which is this declared table
+pub record IsTable (chosen : ℕ → Bool) (sources : List SourceSpec) (s : ℕ) (d : Declared) : Type 0 where
   pub spec : SourceSpec
   pub there : slice_get sources s ≡ Some spec
-  pub read : IsTrue (reads_source ops s)
+  pub read : IsTrue (chosen s)
   pub declares : declared_in spec.kind ≡ Some d
 
--- a plan's operators read the source of this number, which is a table
-abbrev pub IsTableOf : List Operator → List SourceSpec → ℕ → Type 0
-IsTableOf ops sources s = (d : Declared) × IsTable ops sources s d
+-- by a choice of sources the source of this number is chosen, which is a table
+abbrev pub IsTableOf : (ℕ → Bool) → List SourceSpec → ℕ → Type 0
+IsTableOf chosen sources s = (d : Declared) × IsTable chosen sources s d
 
--- a plan's operators read the source of this number, which is this source of another machine
-pub record IsFar (ops : List Operator) (sources : List SourceSpec) (s : ℕ) (far : FarSource) : Type 0 where
+-- by a choice of sources the source of this number is chosen, which is this source of another machine
+pub record IsFar (chosen : ℕ → Bool) (sources : List SourceSpec) (s : ℕ) (far : FarSource) : Type 0 where
   pub spec : SourceSpec
   pub there : slice_get sources s ≡ Some spec
-  pub read : IsTrue (reads_source ops s)
+  pub read : IsTrue (chosen s)
   pub declares : far_in spec.kind ≡ Some far
 
--- a plan's operators read the source of this number, which is one of another machine
-abbrev pub IsFarOf : List Operator → List SourceSpec → ℕ → Type 0
-IsFarOf ops sources s = (far : FarSource) × IsFar ops sources s far
+-- by a choice of sources the source of this number is chosen, which is one of another machine
+abbrev pub IsFarOf : (ℕ → Bool) → List SourceSpec → ℕ → Type 0
+IsFarOf chosen sources s = (far : FarSource) × IsFar chosen sources s far
 
--- a plan's operators read the source of this number, which may fail: it is a table, or a source of another machine
-abbrev pub MayFail : List Operator → List SourceSpec → ℕ → Type 0
-MayFail ops sources s = IsTableOf ops sources s ⊎ IsFarOf ops sources s
+-- by a choice of sources the source of this number is chosen, which is a view
+pub record IsViewOf (chosen : ℕ → Bool) (sources : List SourceSpec) (s : ℕ) : Type 0 where
+  pub spec : SourceSpec
+  pub there : slice_get sources s ≡ Some spec
+  pub read : IsTrue (chosen s)
+  pub view : is_view spec.kind ≡ true
+
+-- by a choice of sources the source of this number is chosen, and it may fail: it is a table, a source of another machine, or a view
+abbrev pub MayFail : (ℕ → Bool) → List SourceSpec → ℕ → Type 0
+MayFail chosen sources s = IsTableOf chosen sources s ⊎ (IsFarOf chosen sources s ⊎ IsViewOf chosen sources s)
+
+-- how often a declared table failed; never where none is declared
+abbrev pub table_faults : TablesView → Option Declared → ℕ
+table_faults tables None = 0
+table_faults tables (Some d) = tables.faults d
+
+-- how often a source of another machine failed; never where there is none
+abbrev pub far_faults : FarsView → Option FarSource → ℕ
+far_faults fars None = 0
+far_faults fars (Some far) = fars.faults far
+
+-- how often the table of a source failed, or the source at another machine; a source that is neither never does
+abbrev pub spec_faults : StoresView → Option SourceSpec → ℕ
+spec_faults stores None = 0
+spec_faults stores (Some spec) = table_faults stores.tables (declared_in spec.kind) + far_faults stores.fars (far_in spec.kind)
+
+-- how often the sources failed, each counted once, that a view's operators read among those that are no views
+abbrev pub faults_below : StoresView → List SourceSpec → List Operator → ℕ
+faults_below stores sources ops = let base = base_of sources in sum_below (reads_source ops) (λ s. spec_faults stores (slice_get base s)) (length base)
 
 -- whether the rows of a declared table are told; true where no table is declared
 abbrev pub is_table_told : TablesView → Option Declared → Bool
@@ -57,18 +88,22 @@ abbrev pub is_far_told : FarsView → Option FarSource → Bool
 is_far_told fars None = true
 is_far_told fars (Some far) = fars.told far
 
--- whether the document of a source is told: that of a file is
+-- whether the document of a source is told: that of a file is, and of a view it is where those below it are
 abbrev pub is_spec_told : StoresView → SourceSpec → Bool
 is_spec_told stores spec = is_table_told stores.tables (declared_in spec.kind) && is_far_told stores.fars (far_in spec.kind)
 
--- whether the document is told of each source that a plan's operators read among given sources, which are numbered from a given number on
-abbrev pub told_from : StoresView → List Operator → ℕ → List SourceSpec → Bool
-told_from stores ops n [] = true
-told_from stores ops n (spec ∷ sources) = (not (reads_source ops n) || is_spec_told stores spec) && told_from stores ops (n + 1) sources
+-- whether the document is told of each chosen source among given sources, which are numbered from a given number on
+abbrev pub told_from : StoresView → (ℕ → Bool) → ℕ → List SourceSpec → Bool
+told_from stores chosen n [] = true
+told_from stores chosen n (spec ∷ sources) = (not (chosen n) || is_spec_told stores spec) && told_from stores chosen (n + 1) sources
 
--- whether the document of each source that a plan's operators read is told
-abbrev pub all_told : StoresView → List Operator → List SourceSpec → Bool
-all_told stores ops sources = told_from stores ops 0 sources
+-- whether the document of each chosen source is told
+abbrev pub all_told : StoresView → (ℕ → Bool) → List SourceSpec → Bool
+all_told stores chosen sources = told_from stores chosen 0 sources
+
+-- whether the document of each source is told that the plan of what is asked needs, or a view that it reads
+abbrev pub is_told : StoresView → Question → Bool
+is_told stores q = all_told stores (needs q.ops q.lower) q.sources
 
 -- the tolls on the document of a plan of the steps with given answers, and of the next step where there is one
 abbrev pub steps_toll : Question → List Answer → ℕ
@@ -88,7 +123,8 @@ in_order q = record {
   Begin = λ whole lines. (rest : List ℕ) × (lines ≡ answer_lines (names_of_sources q.sources) whole q.steps ++ rest);
 }
 
--- at most as many fills were asked as the tolls of the steps say that were begun: those whose lines were written whole, and the next one
+-- at most as many fills were asked as the tolls of the steps say that were begun, each as often as a step costs at most in a view that the plan reads: those whose
+-- lines were written whole, and the next one
 pub record IsFrugal (w : Manner) (before after : Option (List ℕ)) (q : Question) (fills : ℕ) (answers : List Answer) : Type 0 where
   pub whole : List Answer
   pub later : List Answer
@@ -96,34 +132,38 @@ pub record IsFrugal (w : Manner) (before after : Option (List ℕ)) (q : Questio
   pub lines : List ℕ
   pub begin : w.Begin whole lines
   pub written : Appends before after lines
-  pub cost : fills ≤ steps_toll q whole
+  pub cost : (most : ℕ) → AreCheap q most → fills ≤ most * steps_toll q whole
 
 -- what steps come to that are answered over stores that meant the first before and mean the second after, what it asked, and what a sink has
 -- taken of their lines
 pub record IsAnsweredIn (w : Manner) (before after : StoresView) (q : Question) (fills : ℕ) (sink sink' : SinkView) (status : ℕ) (lines : List ℕ) : Type 0 where
-  -- the answers to the first steps; a fault is one of a table or of another machine's source that the plan reads
+  -- the answers to the first steps; a fault is one of a table, of another machine's source or of a view that the plan reads
   pub answers : List Answer
-  pub allowed : AreAnswers false (MayFail q.ops q.sources) no_names answers q.steps
+  pub allowed : AreAnswers false (MayFail (reads_source q.ops) q.sources) no_names answers q.steps
   -- a table failed as often as it is marked, and so did a source of another machine
-  pub counted : (s : ℕ) (d : Declared) → IsTable q.ops q.sources s d → HasRisenBy (faults_of s answers) (before.tables.faults d) (after.tables.faults d)
-  pub counted_far : (s : ℕ) (far : FarSource) → IsFar q.ops q.sources s far → HasRisenBy (faults_of s answers) (before.fars.faults far) (after.fars.faults far)
+  pub counted : (s : ℕ) (d : Declared) → IsTable (reads_source q.ops) q.sources s d → HasRisenBy (faults_of s answers) (before.tables.faults d) (after.tables.faults d)
+  pub counted_far : (s : ℕ) (far : FarSource) → IsFar (reads_source q.ops) q.sources s far → HasRisenBy (faults_of s answers) (before.fars.faults far) (after.fars.faults far)
+  -- a view is marked at most as often as the sources below it failed
+  pub counted_view : (i : ℕ) (ops : List Operator) → lower_at q.lower i ≡ Some ops
+      → HasRisenBy (faults_of (view_number q.sources i) answers) (faults_below before q.sources ops) (faults_below after q.sources ops)
   pub status_is : status ≡ cond (has_fault answers) 1 0
   -- no more pages of tables were asked than fills
   pub pages : after.tables.pages ≤ before.tables.pages + fills
   -- over told documents no more fills were asked than the tolls of the steps come to that were begun
-  pub cost : all_told before q.ops q.sources ≡ true → IsFrugal w sink.written sink'.written q fills answers
+  pub cost : is_told before q ≡ true → IsFrugal w sink.written sink'.written q fills answers
   -- over told documents the lines are those of all steps on the tree, under the marks that the answers show
-  pub told : all_told before q.ops q.sources ≡ true → let marks = marks_of answers in
+  pub told : is_told before q ≡ true → let marks = marks_of answers in
       AreMarks false q.tree no_names marks q.steps × (lines ≡ w.under marks)
   -- over documents that are not all told the lines are those of answers to all steps
-  pub untold : all_told before q.ops q.sources ≡ false → (length answers ≡ length q.steps) × (lines ≡ w.lines_of answers)
+  pub untold : is_told before q ≡ false → (length answers ≡ length q.steps) × (lines ≡ w.lines_of answers)
 
 -- the answers to the steps of a run, its status and lines, over stores that meant the first before and mean the second after
 abbrev pub IsAnswered : StoresView → StoresView → Question → ℕ → SinkView → SinkView → ℕ → List ℕ → Type 0
 IsAnswered before after q = IsAnsweredIn (in_order q) before after q
 
--- where a plan reads no table and no source of another machine, the lines of a run are the transcript without marks, and the status is 0
+-- where neither a plan nor a view that it reads needs a table or a source of another machine, and it reads no view, the lines of a run are the transcript without
+-- marks, and the status is 0
 abbrev pub RunsWithoutTablesAreUnmarked : Type 0
 RunsWithoutTablesAreUnmarked =
     (before after : StoresView) (q : Question) (fills : ℕ) (sink sink' : SinkView) (status : ℕ) (lines : List ℕ)
-    → ((s : ℕ) → MayFail q.ops q.sources s → ⊥) → IsAnswered before after q fills sink sink' status lines → (status ≡ 0) × (lines ≡ transcript q.tree [] [] q.steps)
+    → ((s : ℕ) → MayFail (needs q.ops q.lower) q.sources s → ⊥) → IsAnswered before after q fills sink sink' status lines → (status ≡ 0) × (lines ≡ transcript q.tree [] [] q.steps)

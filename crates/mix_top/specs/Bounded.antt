@@ -9,9 +9,10 @@ use Rattle.plan_core.specs.Valid.{IsValid}
 use Rattle.plan_rewrite.specs.Rewritten.{operators_for}
 use Rattle.table_keep.specs.Views.{Declared, TablesView}
 use Rattle.view_class.specs.Laid.{AreRows}
+use Rattle.view_class.specs.Reads.{reads_source}
 use Rattle.xmas_read.specs.Results.{names_of_sources}
 use Rattle.xmas_rule.specs.Rules.{RuleValue, IsAccepted}
-use Rattle.mix_top.specs.Answered.{IsTable, all_told}
+use Rattle.mix_top.specs.Answered.{IsTable, is_told}
 use Rattle.mix_top.specs.Counts.{class_over}
 use Rattle.mix_top.specs.Course.{AreDocuments}
 use Rattle.mix_top.specs.Outside.{Outside}
@@ -19,12 +20,12 @@ use Rattle.mix_top.specs.Question.{Question}
 
 -- the values in the told rows of each table that a plan's operators read are as the catalog declares its columns
 abbrev pub AreDeclared : TablesView → List Operator → List SourceSpec → Type 0
-AreDeclared tables ops sources = (s : ℕ) (d : Declared) → IsTable ops sources s d → IfSome (tables.told d) (AreRows d.columns)
+AreDeclared tables ops sources = (s : ℕ) (d : Declared) → IsTable (reads_source ops) sources s d → IfSome (tables.told d) (AreRows d.columns)
 
 -- the class of what is asked is bounded by a number, over documents that are told: those of its files, of tables with values as declared, and of other machines
 pub record IsBoundedBy (before : Outside) (q : Question) (most : ℕ) : Type 0 where
-  pub documents : AreDocuments before q.ops q.sources q.docs
-  pub told : all_told before.stores q.ops q.sources ≡ true
+  pub documents : AreDocuments before q
+  pub told : is_told before.stores q ≡ true
   pub declared : AreDeclared before.stores.tables q.ops q.sources
   pub class : class_over q.sources q.ops ≡ Bounded most
 

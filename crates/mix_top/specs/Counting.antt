@@ -3,8 +3,8 @@ use Rattle.std.specs.Prelude.{◌≡◌, ◌⊎◌, ℕ, List, Result, Ok, Err}
 use Rattle.mix_io.specs.Views.{SinkView}
 use Rattle.mix_lines.specs.declared.fault.LinesFault.{LinesFault}
 use Rattle.mix_top.specs.declared.counting.Counts.{Counts}
-use Rattle.mix_top.specs.declared.refusal.Outcome.{Outcome}
-use Rattle.mix_top.specs.declared.refusal.Stop.{Stop}
+use Rattle.mix_top.specs.declared.outcome.Outcome.{Outcome}
+use Rattle.mix_place.specs.declared.refusal.Stop.{Stop}
 use Rattle.mix_top.specs.Counts.{count_lines}
 use Rattle.mix_top.specs.Stops.{IsCut, Wrote, stop_for}
 

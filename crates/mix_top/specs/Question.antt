@@ -1,20 +1,30 @@
 -- What is asked of a run whose files were all accepted, and over what.
-use Rattle.std.specs.Prelude.{◌≡◌, List, Some}
+use Rattle.std.specs.Prelude.{◌≡◌, ◌≤◌, ℕ, List, Option, Some}
 use Rattle.mix_tree.specs.Forest.{LabelledTree}
 use Rattle.mix_tree.specs.Nodes.{Documents}
 use Rattle.mix_catalog.specs.declared.source.SourceSpec.{SourceSpec}
 use Rattle.mix_script.specs.declared.step.Step.{Step}
+use Rattle.mix_place.specs.Views.{lower_at}
 use Rattle.plan_core.specs.Events.{visited}
 use Rattle.plan_core.specs.Plans.{Operator, document}
+use Rattle.view_stack.specs.Steps.{CostsAtMost}
 
--- what is asked of a run: sources, the operators of a plan, steps, the documents of the sources, and a tree that is to be the plan's document over them
+-- what is asked of a run: sources, the operators of a plan, those of the views among the sources that it reads, steps, the documents of the sources that are no
+-- views, the documents of all sources, and a tree that is to be the plan's document over them
 pub record Question : Type 0 where
   pub sources : List SourceSpec
   pub ops : List Operator
+  pub lower : List (Option (List Operator))
   pub steps : List Step
+  pub below : Documents
   pub docs : Documents
   pub tree : LabelledTree
 
 -- a tree is the document of a plan's operators over documents of its sources
 abbrev pub IsPlanDocument : Documents → List Operator → LabelledTree → Type 0
 IsPlanDocument docs ops t = document (visited docs) ops ≡ Some t
+
+-- a step down or right from any node of a view that the plan reads costs at most this number, which is at least one
+pub record AreCheap (q : Question) (most : ℕ) : Type 0 where
+  pub one : 1 ≤ most
+  pub steps : (i : ℕ) (ops : List Operator) → lower_at q.lower i ≡ Some ops → CostsAtMost q.below ops most

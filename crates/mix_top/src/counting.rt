@@ -6,16 +6,19 @@ ghost use Rattle.plan_core.specs.PlanMade.{plan_value};
 ghost use Rattle.mix_top.specs.Counting.{IsCounted, IsCountStop, lines_of_counts};
 ghost use Rattle.mix_top.specs.Counts.{number_lines};
 ghost use Rattle.mix_top.specs.Course.{lines_of_count};
-ghost use Rattle.mix_top.specs.Running.{ArePlaced, IsPlanOver, LinesOver, placed};
+ghost use Rattle.mix_place.specs.Placed.{ArePlaced};
+ghost use Rattle.mix_place.specs.Plans.{IsPlanOver};
+ghost use Rattle.mix_top.specs.Running.{LinesOver, placed};
 ghost use Rattle.mix_top.specs.Stops.{IsDoneAlong, IsStopAlong};
 
 use crate::asked::{Ready, Spent, answer};
-use crate::refusal::{Outcome, Stop};
+use crate::outcome::{Outcome, ended};
 use crate::writing::write_lines;
 use browse_class::Class;
 use far_keep::Fars;
 use mix_io::Sink;
 use mix_lines::LinesFault;
+use mix_place::Stop;
 use mix_reach::Stores;
 use std::alloc::{AllocError, Global};
 use table_keep::Tables;
@@ -58,7 +61,7 @@ fn write_counts<K: Sink>(
     ensures err { IfErr result (IsCountStop end (K.view out.old) (K.view out.new) (lines_of_counts counts.now)) }
     ensures count { (K.view out.old).faults ≤ (K.view out.new).faults }
 {
-    let outcome = end?;
+    let outcome = ended(end)?;
     let text = counts_text(alloc, counts)?;
     write_lines(alloc, text.as_bytes(), out)?;
     Ok(outcome)
@@ -73,7 +76,7 @@ pub fn count_ready<T: Tables, R: Fars, K: Sink>(
 ) -> (Result<Outcome, Stop>, Stores<T, R>)
     requires over { IsPlanOver ready.asked.catalog (plan_value ready.asked.plan) }
     requires placed { let asked = ready.asked in (files : FilesView) × ArePlaced files (plan_value asked.plan).ops asked.catalog (placed ready) }
-    requires few { length ready.docs.items ≤ 32 }
+    requires few { length ready.asked.catalog ≤ 32 }
     ensures keeps { KeepsStores (stores_in T.view R.view stores) (stores_in T.view R.view result.1) }
     ensures done { let old = stores_in T.view R.view stores in let new = stores_in T.view R.view result.1 in
         IfOk result.0 (IsDoneAlong (LinesOver lines_of_count old new (placed ready) ready.asked) (K.view out.old) (K.view out.new)) }

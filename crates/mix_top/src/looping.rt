@@ -4,7 +4,9 @@ ghost use Rattle.mix_io.specs.Views.{FilesView, SinkView};
 ghost use Rattle.plan_core.specs.PlanMade.{plan_value};
 ghost use Rattle.mix_reach.specs.Stores.{KeepsStores, StoresView, stores_in};
 ghost use Rattle.table_keep.specs.Views.{TablesView};
-ghost use Rattle.mix_top.specs.Running.{ArePlaced, IsLinesEnd, IsPlanOver, LinesOver, by_fills, placed};
+ghost use Rattle.mix_place.specs.Placed.{ArePlaced};
+ghost use Rattle.mix_top.specs.Running.{IsLinesEnd, LinesOver, by_fills, placed};
+ghost use Rattle.mix_place.specs.Plans.{IsPlanOver};
 
 use crate::asked::{Answered, Ready, answer_over, hand_back};
 use far_keep::Fars;
@@ -13,6 +15,7 @@ use mix_io::Sink;
 use mix_lines::LinesFault;
 use mix_loop::{close_loop, open_loop};
 use mix_mount::Mounted;
+use mix_place::Placement;
 use mix_reach::{Reached, Stores};
 use std::alloc::Global;
 use table_keep::Tables;
@@ -27,7 +30,7 @@ pub fn answer_looped<T: Tables, R: Fars, K: Sink>(
 ) -> Answered<T, R>
     requires over { IsPlanOver ready.asked.catalog (plan_value ready.asked.plan) }
     requires placed { let asked = ready.asked in (files : FilesView) × ArePlaced files (plan_value asked.plan).ops asked.catalog (placed ready) }
-    requires few { length ready.docs.items ≤ 32 }
+    requires few { length ready.asked.catalog ≤ 32 }
     ensures keeps { KeepsStores (stores_in T.view R.view stores) (stores_in T.view R.view result.stores) }
     ensures end { let old = stores_in T.view R.view stores in let new = stores_in T.view R.view result.stores in
         IsLinesEnd (LinesOver (by_fills result.spent.fills) old new (placed ready) ready.asked) (K.view out.old) (K.view out.new) result.end }
@@ -36,12 +39,13 @@ pub fn answer_looped<T: Tables, R: Fars, K: Sink>(
 {
     valid_plans_have_documents();
     let before = stores.tables.pages();
-    let Ready { asked, docs, sites } = ready;
+    let Ready { asked, placement } = ready;
+    let Placement { docs, sites, views } = placement;
     let Stores { tables, fars } = stores;
     let sources = Reached::new(Mounted::new(docs, tables), sites, fars);
     match open_loop(alloc, sources) {
-        Ok(mut remote) => {
-            let end = answer_over(alloc, asked, &mut remote, out);
+        Ok(remote) => {
+            let (end, remote) = answer_over(alloc, asked, views, remote, out);
             hand_back(end, close_loop(remote), before)
         }
         Err(kept) => hand_back(Err(LinesFault::OutOfMemory), kept, before),

@@ -4,8 +4,8 @@ ghost use Rattle.mix_io.specs.Views.{SinkView};
 ghost use Rattle.mix_io.specs.Contents.{Appends};
 ghost use Rattle.mix_top.specs.Stops.{IsCut};
 
-use crate::refusal::Stop;
 use mix_io::Sink;
+use mix_place::Stop;
 use std::alloc::Global;
 
 /// Writes a line, by one write.

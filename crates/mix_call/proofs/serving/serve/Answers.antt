@@ -1,5 +1,5 @@
 use Rattle.std.proofs.Common.{◌≡◌, inl, inr, Err, IfErr, refl, subst}
-use Rattle.mix_top.specs.declared.refusal.Stop.TheVariants.{Refused}
+use Rattle.mix_place.specs.declared.refusal.Stop.TheVariants.{Refused}
 use Rattle.mix_top.proofs.StopLaws.{refusal_ends}
 use Rattle.mix_call.specs.Served.{IsServingRefused, IsServingStop, placed}
 use Rattle.mix_call.proofs.serving.serve.Goals as goal

@@ -1,6 +1,6 @@
 use Rattle.std.proofs.Common.{◌≡◌, Result, Err, IfErr, subst}
-use Rattle.mix_top.specs.declared.refusal.Stop.{Stop}
-use Rattle.mix_top.specs.declared.refusal.Stop.TheVariants.{Refused}
+use Rattle.mix_place.specs.declared.refusal.Stop.{Stop}
+use Rattle.mix_place.specs.declared.refusal.Stop.TheVariants.{Refused}
 use Rattle.mix_reach.specs.Stores.{stores_in}
 use Rattle.mix_call.specs.declared.talking.Ready.{Ready}
 use Rattle.mix_call.specs.Over.{IsReadyStop}
@@ -13,7 +13,7 @@ returns-in-Ok-clause-ends g c =
     let stores = stores_in g.T.Tables.view g.R.Fars.view in
     let input = g.I.Input.view in
     let sink = g.K.Sink.view in
-    held (files c.args.files.now) (files c.make_ready.new.files) (stores c.args.stores) (stores c.talk_ready-end.result.1) c.args.talking.now.view.now c.args.talking.now.catalog.now c.visited_are_matches.ensures
+    held (files c.args.files.now) (files c.make_ready.new.files) (stores c.args.stores) (stores c.talk_ready-end.result.1) c.args.talking.now.view.now c.args.talking.now.catalog.now c.visited_are_matches.ensures (λ p valid d. c.valid_plans_have_documents.ensures p valid d)
     (input c.args.streams.now.input) (input c.talk_ready-end.new.streams.input) (sink c.args.streams.now.out) (sink c.talk_ready-end.new.streams.out) c.in-Ok.ready c.in-Ok.ensures.ok c.talk_ready-end.result.0 c.talk_ready-end.ensures.end
     c.status_of.result c.status_of.ensures
 

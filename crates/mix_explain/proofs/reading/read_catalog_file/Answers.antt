@@ -1,7 +1,7 @@
 use Rattle.std.proofs.Common.{◌≤◌, ℕ, List, [], Err, ap, refl, subst, sym, length, arith}
 use Rattle.mix_catalog.specs.Sources.{Refuses}
-use Rattle.mix_top.specs.Causes.{IsNoCatalog, IsRead}
-use Rattle.mix_top.specs.declared.refusal.FileFault.TheVariants.{Catalog}
+use Rattle.mix_place.specs.Causes.{IsNoCatalog, IsRead}
+use Rattle.mix_place.specs.declared.refusal.FileFault.TheVariants.{Catalog}
 use Rattle.refusal_words.specs.Catalog.{ExplainsAt, ExplainsCatalog, IsFaultPlace}
 use Rattle.refusal_words.proofs.FaultyLines.{in_faulty_line}
 use Rattle.mix_explain.proofs.Explaining.{explained_for, read_of, unread_explained}

@@ -1,7 +1,7 @@
 use Rattle.std.proofs.Common.{◌≤◌, ℕ, List, Err, ap, refl, subst, sym, length, arith}
 use Rattle.xmas_read.specs.Results.{names_of_sources, Refuses as RefusesRule, Spells}
-use Rattle.mix_top.specs.Causes.{IsNoRule, IsRead}
-use Rattle.mix_top.specs.declared.refusal.FileFault.TheVariants.{View}
+use Rattle.mix_place.specs.Causes.{IsNoRule, IsRead}
+use Rattle.mix_place.specs.declared.refusal.FileFault.TheVariants.{View}
 use Rattle.refusal_words.specs.View.{ExplainsView}
 use Rattle.xmas_rule.specs.RuleMade.{rule_of}
 use Rattle.mix_explain.proofs.Explaining.{explained_for, read_of, unread_explained}

@@ -1,62 +1,51 @@
-use Rattle.std.proofs.Common.{◌≡◌, ◌∙◌, ap, arith, sym, subst, Result, List, ℕ, Bool, true}
-use Rattle.std.proofs.lemmas.Result.{err_from_is_err_and}
-use Rattle.std.proofs.Math.Path.{fun_ext}
-use Rattle.std.specs.List.{list_all}
-use Rattle.plan_core.specs.Plans.{Operator}
+use Rattle.std.proofs.Common.{◌≡◌, ◌∙◌, ◌+◌, List, Option, option_map, Err, ap, arith, sym, subst, length}
+use Rattle.std.proofs.lemmas.List.{length-map}
 use Rattle.plan_core.specs.PlanMade.{plan_value}
 use Rattle.plan_core.specs.declared.plan.Plan.{Plan}
-use Rattle.lazy_plan.specs.Bench.{ops_of}
-use Rattle.lazy_value.specs.Mediators.{state_of}
-use Rattle.mix_reach.specs.Reach.{view_of}
-use Rattle.mix_top.specs.Answered.{all_told}
-use Rattle.mix_session.specs.Walks.{plan_course}
-use Rattle.xmas_read.specs.Results.{names_of_sources}
-use Rattle.mix_top.specs.declared.refusal.Outcome.{Outcome}
-use Rattle.mix_lines.specs.declared.fault.LinesFault.{LinesFault}
-use Rattle.lazy_binding.specs.World.{reads}
-use Rattle.mix_reach.specs.Stores.{stores_of}
-use Rattle.mix_top.specs.Running.{IsLinesEnd, LinesOver, by_fills, documents_of, placed_of}
-use Rattle.mix_top.proofs.Mounts.{reads_forward, reads_told}
-use Rattle.mix_top.proofs.Answering.{document_over, documents_are}
-use Rattle.mix_top.proofs.LinesEnd.{renamed, lines_end, lines_unbegun}
-use Rattle.mix_top.proofs.ReadTables.{plan_within}
-use Rattle.mix_top.proofs.StoodFor.{ends_stood}
+use Rattle.mix_lines.specs.declared.fault.LinesFault.TheVariants.{OutOfMemory}
+use Rattle.lxp_core.specs.View.{View}
+use Rattle.view_stack.specs.Stacks.{plans_of, stacking_in}
+use Rattle.lazy_value.specs.Mediators.{plan_of}
+use Rattle.mix_top.specs.Running.{IsEndOver}
+use Rattle.mix_top.proofs.Ending.{stack_ends, unopened_ends}
 use Rattle.mix_top.proofs.asked.answer_over.Goals as goal
 
-pub returns-clause-end : goal.returns-clause-end
-returns-clause-end g c = λ files a b place unasked stand few.
+pub returns-in-Ok-clause-end : goal.returns-in-Ok-clause-end
+returns-in-Ok-clause-end g c =
+    let view = g.S.Sources.view in
     let before = g.K.Sink.view c.args.out.now in
-    let after = g.K.Sink.view c.run_lines.new.out in
-    let old = g.S.Sources.view c.args.sources.now in
-    let new = g.S.Sources.view c.run_lines.new.s in
+    let after = g.K.Sink.view c.walk-end.new.out in
     let asked = c.args.asked in
-    let sources = asked.catalog in
-    let steps = asked.steps.items in
-    let p = plan_value asked.plan in
-    let m = c.in_ok-mediator.mediator in
-    let is = ap (λ (q : Plan). (plan_value q).ops) c.in_ok-mediator.ensures.plan in
-    let found = document_over old a stand.tells m p.ops is (λ d. c.valid_plans_have_documents.ensures p c.requires.over.valid d) in
-    let st = state_of old m in
-    let same = renamed (plan_course st) old new (names_of_sources sources) c.deref-2.result.now steps c.deref.result.now before after c.run_lines.result
-    (c.deref-2.ensures.value ∙ c.in_ok-names.ensures) c.deref.ensures.value c.run_lines.ensures.ends in
-    let ends = ends_stood (plan_course st) old new a b stand (names_of_sources sources) steps before after c.run_lines.result same in
-    let within = plan_within sources p c.requires.over in
-    let ahead = λ (all : all_told (stores_of a) p.ops sources ≡ true). subst (λ (forward : ℕ → Bool). list_all (reads forward) (ops_of st) ≡ true) (sym (fun_ext stand.tells.forward))
-    (subst (λ (o : List Operator). list_all (reads (view_of a).forward) o ≡ true) (sym is) (reads_forward files p.ops sources a place within all)) in
-    subst (λ (r : Result Outcome LinesFault). IsLinesEnd (LinesOver (by_fills b.fills) (stores_of a) (stores_of b) (placed_of a) asked) before after r) (sym c.end_of.ensures)
-    (lines_end files a b stand.came asked place c.requires.over st is (documents_are old a stand.tells m p.ops is) ahead found.0
-    (λ all. found.2 (reads_told files p.ops sources a place within all)) unasked few before after found.1 c.run_lines.result ends)
+    let k = stacking_in view c.in-Ok.stack.layers in
+    let k' = stacking_in view c.walk-end.new.sources.layers in
+    let came = c.walk-end.ensures.came in
+    let end = c.walk-end.result in
+    let h = stack_ends asked c.requires.over (λ d. c.valid_plans_have_documents.ensures (plan_value asked.plan) c.requires.over.valid d) before after end k k' _ (λ same. ap (λ s. view s.layers.base) same)
+    (g.met.S.Sources.keeps c.in-Ok.stack.layers.base c.walk-end.new.sources.layers.base came.base) came.plans c.in-Ok.ensures.fills came.lazy c.walk-end.ensures.end in
+    subst (λ (v : View). IsEndOver v (view c.into_base.result) c.args.views.items asked before after end) (ap view c.in-Ok.ensures.base)
+    (subst (λ (v : View). IsEndOver k.base v c.args.views.items asked before after end) (ap view (sym c.into_base.ensures))
+    (subst (λ (vs : List (Option Plan)). IsEndOver k.base k'.base vs asked before after end) c.in-Ok.ensures.plans h))
 
-pub returns-in_err-names-clause-end : goal.returns-in_err-names-clause-end
-returns-in_err-names-clause-end g c = λ files a b place unasked stand few.
+pub returns-in-Err-clause-end : goal.returns-in-Err-clause-end
+returns-in-Err-clause-end g c =
+    let view = g.S.Sources.view in
     let asked = c.args.asked in
-    let p = err_from_is_err_and c.from_residual.result c.from_residual.ensures.1 in
-    let found = c.valid_plans_have_documents.ensures (plan_value asked.plan) c.requires.over.valid (documents_of (stores_of a) (placed_of a)) in
-    rw (p.1, p.2) (lines_unbegun a b stand.came asked found.0 found.1 (omega (arith, stand.fills, unasked)) few (g.K.Sink.view c.args.out.now))
+    let before = g.K.Sink.view c.args.out.now in
+    subst (λ (v : View). IsEndOver (view c.args.sources) v c.args.views.items asked before before (Err OutOfMemory)) (ap view (sym c.in-Err.ensures.refused))
+    (unopened_ends asked c.requires.over (λ d. c.valid_plans_have_documents.ensures (plan_value asked.plan) c.requires.over.valid d) before (view c.args.sources) c.args.views.items)
 
-pub returns-in_err-mediator-clause-end : goal.returns-in_err-mediator-clause-end
-returns-in_err-mediator-clause-end g c = λ files a b place unasked stand few.
-    let asked = c.args.asked in
-    let p = err_from_is_err_and c.from_residual-in_err-mediator.result c.from_residual-in_err-mediator.ensures.1 in
-    let found = c.valid_plans_have_documents.ensures (plan_value asked.plan) c.requires.over.valid (documents_of (stores_of a) (placed_of a)) in
-    rw (p.1, p.2) (lines_unbegun a b stand.came asked found.0 found.1 (omega (arith, stand.fills, unasked)) few (g.K.Sink.view c.args.out.now))
+pub walk-end-requires-clause-number : goal.walk-end-requires-clause-number
+walk-end-requires-clause-number g c =
+    let b = ap (λ s. (g.S.Sources.view s).count) c.in-Ok.ensures.base in
+    let l = ap (λ (vs : List (Option Plan)). length vs) c.in-Ok.ensures.plans in
+    let m = length-map c.in-Ok.stack.layers.views.items (option_map plan_of) in
+    let n = c.requires.number in
+    omega (arith, b, l, m, n)
+
+pub returns-in-Ok-clause-came : goal.returns-in-Ok-clause-came
+returns-in-Ok-clause-came g c =
+    subst (λ s. g.S.Sources.came_from s c.into_base.result) c.in-Ok.ensures.base
+    (subst (λ s. g.S.Sources.came_from c.in-Ok.stack.layers.base s) (sym c.into_base.ensures) c.walk-end.ensures.came.base)
+
+pub returns-in-Err-clause-came : goal.returns-in-Err-clause-came
+returns-in-Err-clause-came g c = subst (λ s. g.S.Sources.came_from c.args.sources s) (sym c.in-Err.ensures.refused) (g.met.S.Sources.same c.args.sources)

@@ -2,7 +2,7 @@ use Rattle.std.proofs.Common.{IfOk, IfErr, subst, sym}
 use Rattle.plan_core.specs.PlanMade.{plan_value}
 use Rattle.plan_core.specs.declared.plan.Plan.{Plan}
 use Rattle.mix_top.specs.Running.{IsPlanGiven, given_by}
-use Rattle.mix_top.specs.Stops.{IsLoadStop}
+use Rattle.mix_place.specs.Stops.{IsLoadStop}
 use Rattle.mix_top.specs.declared.running.RunForm.{RunForm}
 use Rattle.mix_top.proofs.Forms.{of_views}
 use Rattle.mix_top.proofs.running.load_given.Goals as goal

@@ -1,6 +1,6 @@
 use Rattle.std.proofs.Common.{◌≡◌, sym, subst, Result, IfOk, IfErr}
-use Rattle.mix_top.specs.declared.refusal.Outcome.{Outcome}
-use Rattle.mix_top.specs.declared.refusal.Stop.{Stop}
+use Rattle.mix_top.specs.declared.outcome.Outcome.{Outcome}
+use Rattle.mix_place.specs.declared.refusal.Stop.{Stop}
 use Rattle.mix_top.specs.declared.running.RunForm.{RunForm}
 use Rattle.mix_top.specs.declared.running.RunForm.TheVariants.{Answers, Executed}
 use Rattle.mix_top.specs.Course.{lines_of_run}

@@ -1,7 +1,7 @@
 use Rattle.std.proofs.Common.{◌≡◌, subst}
 use Rattle.mix_top.specs.Stops.{IsWordsStop}
 use Rattle.mix_top.specs.Texts.{unknown_text}
-use Rattle.mix_top.specs.declared.refusal.Stop.TheVariants.{Refused}
+use Rattle.mix_place.specs.declared.refusal.Stop.TheVariants.{Refused}
 use Rattle.mix_top.proofs.StopLaws.{refusal_ends}
 use Rattle.mix_top.proofs.top.refuse_words.Goals as goal
 

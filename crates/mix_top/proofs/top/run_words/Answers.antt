@@ -5,9 +5,9 @@ use Rattle.mix_top.specs.Course.{IsCourse}
 use Rattle.mix_reach.specs.Stores.{stores_in}
 use Rattle.mix_top.specs.Outside.{outside}
 use Rattle.mix_top.specs.Stops.{IsStopFrom}
-use Rattle.mix_top.specs.declared.refusal.Outcome.{Outcome}
-use Rattle.mix_top.specs.declared.refusal.Stop.{Stop}
-use Rattle.mix_top.specs.declared.refusal.Stop.TheVariants.{Refused}
+use Rattle.mix_top.specs.declared.outcome.Outcome.{Outcome}
+use Rattle.mix_place.specs.declared.refusal.Stop.{Stop}
+use Rattle.mix_place.specs.declared.refusal.Stop.TheVariants.{Refused}
 use Rattle.mix_top.proofs.Further.{refused_ends}
 use Rattle.mix_top.proofs.top.run_words.Goals as goal
 

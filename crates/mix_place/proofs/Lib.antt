@@ -1,0 +1,14 @@
+pub mod Bases
+pub mod ChosenLaws
+pub mod Chunks
+pub mod Earlier
+pub mod LoadLaws
+pub mod MoreLaws
+pub mod MountLaws
+pub mod Needs
+pub mod PlaceLaws
+pub mod ReadingLaws
+pub mod Sites
+pub mod SourceKinds
+pub mod SourceNames
+pub mod ViewLaws

@@ -1,0 +1,12 @@
+pub mod Added
+pub mod Causes
+pub mod Chosen
+pub mod Documents
+pub mod Files
+pub mod Mounted
+pub mod Mounting
+pub mod Placed
+pub mod Plans
+pub mod Reading
+pub mod Stops
+pub mod Views
