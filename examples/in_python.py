@@ -44,9 +44,10 @@ def find(document, words, at):
     return next((place[:-1] + (number,) for number in later), None)
 
 
-def answer(document, script):
-    """Prints the answer to each line of a script of one client whose names all hold nodes."""
-    at = {}
+def answer(document, script, text_of=None, named=None):
+    """Prints the answer to each line of a script of one client whose names all hold nodes. Where the script has identifiers, `text_of` tells the text by
+    which steps from the root know the node at a place, and `named` the place of the node that a text names, or None; a name that a text gave has that text."""
+    at, texts = {}, {}
     for line in script:
         words = line.split()
         if not words or words[0].startswith("#"):
@@ -57,7 +58,16 @@ def answer(document, script):
         if words[0] == "print":
             print("text", text(node(document, at[words[1]])))
             continue
+        if words[0] == "id":
+            print("id", texts.get(words[1]) or text_of(at[words[1]]))
+            continue
+        if words[2] == "at":
+            place = named(words[3])
+            if place is not None:
+                at[words[0]], texts[words[0]] = place, words[3]
+            print("foreign" if place is None else "node")
+            continue
         place = find(document, words, at)
         found = place is not None and node(document, place) is not None
-        at[words[0]] = place if found else None
+        at[words[0]], texts[words[0]] = place if found else None, None
         print("node" if found else "none")

@@ -5,9 +5,11 @@ ghost use Rattle.xmas_rule.specs.RuleMade.{rule_of};
 ghost use Rattle.xmas_rule.specs.Rules.{IsAccepted};
 ghost use Rattle.plan_core.specs.PlanMade.{plan_value};
 ghost use Rattle.plan_core.specs.Valid.{IsValid};
-ghost use Rattle.lazy_value.specs.Mediators.{IsMediatorOf};
+ghost use Rattle.plan_evidence.specs.Held.{UsesHeld};
+ghost use Rattle.lazy_plan.specs.Bench.{ops_of};
+ghost use Rattle.lazy_value.specs.Named.{IsMediatorOf, state_of};
 
-use crate::setting::{RuleRead, rule_of_case, sources_of, steps_of};
+use crate::setting::{RuleRead, rule_of_case, sources_of, steps_of, walk_steps_of};
 use crate::watched::Watched;
 use case_text::{Fault, Part, numbers, part_of};
 use lazy_value::Mediator;
@@ -18,6 +20,7 @@ use mix_tree::Label;
 use plan_core::Plan;
 use plan_make::make_plan;
 use plan_rewrite::plan_view;
+use plan_uses::plans_of_views_use_what_is_held;
 use std::alloc::{AllocError, Global};
 
 /// What is run of a case: its script, and how it is run.
@@ -85,8 +88,10 @@ fn left(
 // The plan of a rule.
 fn plan_of(alloc: Global, read: &RuleRead, is_unmoved: bool) -> Result<Plan, AllocError>
     requires { IsAccepted (length read.now.names.items) (rule_of read.now.rule) }
-    ensures { IfOk result (λ plan. IsValid (plan_value plan)) }
+    ensures valid { IfOk result (λ plan. IsValid (plan_value plan)) }
+    ensures uses { IfOk result (λ plan. UsesHeld (plan_value plan).ops) }
 {
+    plans_of_views_use_what_is_held();
     if is_unmoved {
         make_plan(alloc, &read.rule, &read.names)
     } else {
@@ -97,13 +102,15 @@ fn plan_of(alloc: Global, read: &RuleRead, is_unmoved: bool) -> Result<Plan, All
 // The mediator of a rule's plan over the documents of a case. `Fault::Form`: there are not as many documents as sources.
 fn opened(alloc: Global, s: &Watched, read: &RuleRead, is_unmoved: bool) -> Result<Mediator, Fault>
     requires { IsAccepted (length read.now.names.items) (rule_of read.now.rule) }
-    ensures { IfOk result (IsMediatorOf (memory_view s.now.sources)) }
+    ensures mediator { IfOk result (IsMediatorOf (memory_view s.now.sources)) }
+    ensures uses { IfOk result (λ m. UsesHeld (ops_of (state_of (memory_view s.now.sources) m))) }
 {
     let plan = plan_of(alloc, read, is_unmoved)?;
     if plan.sources.len() != s.count() as usize {
         return Err(Fault::Form);
     }
-    Ok(Mediator::open(alloc, plan, s)?)
+    let mediator = Mediator::open(alloc, plan, s)?;
+    Ok(mediator)
 }
 
 // Answers a script on the document of the case's view.
@@ -122,7 +129,7 @@ fn run_view(alloc: Global, parts: &[Part<'_>], turn: &Turn<'_>) -> Result<Outcom
 
 // Answers a script on the only document of a case, which is named `doc`.
 fn run_walk(alloc: Global, parts: &[Part<'_>], turn: &Turn<'_>) -> Result<Outcome, Fault> {
-    let steps = steps_of(alloc, turn.script)?;
+    let steps = walk_steps_of(alloc, turn.script)?;
     let names = [Label::of_text(alloc, b"doc")?];
     let mut s = watched(alloc, parts, turn)?;
     if s.count() as usize != names.len() {

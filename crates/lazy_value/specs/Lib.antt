@@ -1,6 +1,3 @@
-pub mod Above
-pub mod Finding
-pub mod Kept
-pub mod Leading
-pub mod Mediators
-pub mod Places
+pub mod Forms
+pub mod Named
+pub mod Steps

@@ -60,9 +60,10 @@ module _ (old new : FilesView) (stores stores' : StoresView) (view catalog : Lis
         record {
           view_is = view_question visits has old stores ready.basis.catalog (plan_value ready.basis.plan) (steps_in asked) (placed ready) is.placed_are h.0 view catalog is.catalog_is h.1 is.plan_is;
           steps_are = refl;
+          texts = h.2.0;
         },
         fills,
-        h.2,
+        h.2.1,
       )
 
 -- where a talk was refused, and the line of its refusal was written or cut short, the talk ends

@@ -3,7 +3,6 @@ use Rattle.std.proofs.Common.{◌≡◌, ◌⊎◌, ◌+◌, ◌-◌, ◌^◌, �
 use Rattle.std.specs.List.{AllByRecursion}
 use Rattle.mix_io.specs.Input.{InputView}
 use Rattle.mix_io.specs.Views.{FilesView, SinkView}
-use Rattle.mix_tree.specs.Forest.{LabelledTree}
 use Rattle.mix_tree.specs.Nodes.{Documents}
 use Rattle.lxp_core.specs.View.{Keeps, View}
 use Rattle.mix_loop.specs.Loops.{StandIn}
@@ -13,15 +12,16 @@ use Rattle.mix_talk.specs.declared.fault.TalkFault.{TalkFault}
 use Rattle.mix_talk.specs.declared.fault.TalkFault.TheVariants.{OutOfMemory}
 use Rattle.plan_core.specs.declared.plan.Plan.{Plan}
 use Rattle.plan_core.specs.PlanMade.{plan_value}
-use Rattle.plan_core.specs.Plans.{document}
-use Rattle.plan_core.specs.Events.{visited}
 use Rattle.plan_core.specs.Valid.{HasSource}
-use Rattle.lazy_value.specs.Mediators.{state_of}
+use Rattle.lazy_value.specs.Named.{state_of}
+use Rattle.mix_script.specs.Transcript.{Finished}
+use Rattle.mix_script.specs.declared.step.Step.{Step}
 use Rattle.view_stack.specs.Stacks.{Stacking, plans_of, view_of}
 use Rattle.view_stack.specs.Steps.{AreOpen, AsksEach, Bounds}
 use Rattle.xmas_read.specs.Results.{names_of_sources}
 use Rattle.mix_place.specs.Placed.{ArePlaced}
 use Rattle.mix_place.specs.Plans.{IsPlanOver}
+use Rattle.mix_top.specs.Finishing.{HasFinished, IsFinishedOf}
 use Rattle.mix_top.specs.Running.{all_documents, placed_of}
 use Rattle.mix_top.proofs.Mounts.{count_names}
 use Rattle.mix_top.proofs.ReadTables.{plan_within}
@@ -32,7 +32,7 @@ use Rattle.mix_call.specs.Over.{IsEnd, IsReachedEnd, TalkOver}
 use Rattle.mix_call.specs.declared.talking.Basis.{Basis}
 use Rattle.mix_call.proofs.TalkLines.{talk_lines_end, talk_untaken}
 
-module _ (files : FilesView) (a b : Reaching) (came : CameFrom a b) (basis : Basis) (valid : IsPlanOver basis.catalog (plan_value basis.plan)) (has : (d : Documents) → (t : LabelledTree) × (document (visited d) (plan_value basis.plan).ops ≡ Some t))
+module _ (files : FilesView) (a b : Reaching) (came : CameFrom a b) (basis : Basis) (valid : IsPlanOver basis.catalog (plan_value basis.plan)) (has : (d : Documents) → HasFinished d (plan_value basis.plan).ops (λ steps. Unit {0}))
     (unasked : a.fills ≡ 0) (input : InputView) (sink : SinkView) where
   -- the plan's sources are sources of the catalog
   within : AllByRecursion (HasSource (length basis.catalog)) (plan_value basis.plan).ops
@@ -49,17 +49,18 @@ module _ (files : FilesView) (a b : Reaching) (came : CameFrom a b) (basis : Bas
     pub talk_stack_ends : IsReachedEnd a b (plans_of k.views) basis input input' sink sink' end
     talk_stack_ends few most =
         let found = has (all_documents (stores_of a) (placed_of a (plans_of k.views))) in
-        let t : LabelledTree = found.0 in
+        let f : Finished = found.finished in
+        let texts : (steps : List Step) → IsFinishedOf (all_documents (stores_of a) (placed_of a (plans_of k.views))) (plan_value basis.plan).ops steps f = λ steps. found.is steps tt in
         let Along : InputView → SinkView → Result Bool TalkFault → Type 0 = λ i s e. TalkedAlong (names_of_sources basis.catalog) (TalkOver b.fills (stores_of a) (stores_of b) (placed_of a (plans_of k.views)) basis) input i sink s e in
         elim h as (λ _. Along input' sink' end) [
           | inl w ↦
-              talk_lines_end (view_of k) (view_of k') a b (plans_of k.views) basis (state_of (view_of k) w.mediator) t
-              (λ steps. over files a b k k' basis.catalog (plan_value basis.plan).ops place within keeps stand plans steps t unasked none_asked lazy most w.mediator w.ops_are found.1) few found.1 input input' sink sink' end w.ends
+              talk_lines_end (view_of k) (view_of k') a b (plans_of k.views) basis (state_of (view_of k) w.mediator) f
+              (λ steps. over files a b k k' basis.catalog (plan_value basis.plan).ops place within keeps stand plans steps f unasked none_asked lazy most w.mediator w.ops_are (texts steps).document) few texts input input' sink sink' end w.ends
           | inr none ↦ (
-              let f = same_fills none.3 in
-              let unasked_still : b.fills ≡ 0 = omega (arith, f, unasked) in
+              let same = same_fills none.3 in
+              let unasked_still : b.fills ≡ 0 = omega (arith, same, unasked) in
               subst (λ (i : InputView). Along i sink' end) (sym none.1)
               (subst (λ (s : SinkView). Along input s end) (sym none.2)
-              (subst (λ (e : Result Bool TalkFault). Along input sink e) (sym none.0) (talk_untaken a b came (plans_of k.views) basis t found.1 unasked_still few input sink)))
+              (subst (λ (e : Result Bool TalkFault). Along input sink e) (sym none.0) (talk_untaken a b came (plans_of k.views) basis f texts unasked_still few input sink)))
               )
         ]

@@ -9,19 +9,20 @@ use Rattle.mix_talk.specs.Ends.{TalkEnds as HeardEnds}
 use Rattle.mix_talk.specs.declared.fault.TalkFault.TheVariants.{OutOfMemory}
 use Rattle.lxp_core.specs.View.{View}
 use Rattle.lazy_plan.specs.Bench.{ops_of}
-use Rattle.lazy_value.specs.Mediators.{state_of}
+use Rattle.lazy_value.specs.Named.{state_of}
 use Rattle.lazy_value.specs.declared.mediator.Mediator.{Mediator}
 use Rattle.mix_session.specs.Walks.{plan_course}
 use Rattle.plan_core.specs.declared.plan.Plan.{Plan}
 use Rattle.mix_talk.specs.declared.fault.TalkFault.{TalkFault}
-use Rattle.mix_tree.specs.Forest.{LabelledTree}
+use Rattle.mix_script.specs.Transcript.{Finished}
 use Rattle.plan_core.specs.PlanMade.{plan_value}
+use Rattle.plan_evidence.specs.Held.{UsesHeld}
 use Rattle.xmas_read.specs.Results.{names_of_sources}
 use Rattle.mix_top.specs.Answered.{IsAnsweredIn}
 use Rattle.mix_place.specs.Files.{IsCatalogFile}
 use Rattle.mix_place.specs.Placed.{IsSourceRefused, placed as placed_by, ArePlaced, Placed}
 use Rattle.mix_top.specs.Course.{by_view}
-use Rattle.mix_top.specs.Question.{IsPlanDocument}
+use Rattle.mix_top.specs.Question.{AreNamed, IsPlanDocument}
 use Rattle.mix_place.specs.Reading.{IsEither}
 use Rattle.mix_place.specs.Plans.{IsPlanOver, IsViewPlan}
 use Rattle.mix_top.specs.Running.{IsStopAfter, all_documents, placed_of, question_of}
@@ -42,6 +43,7 @@ pub record IsReady (files : FilesView) (view catalog : List ℕ) (r : Ready) : T
   pub over : IsPlanOver r.basis.catalog (plan_value r.basis.plan)
   pub placed_are : ArePlaced files (plan_value r.basis.plan).ops r.basis.catalog (placed r)
   pub few : length r.basis.catalog ≤ 32
+  pub uses : UsesHeld (plan_value r.basis.plan).ops
 
 -- a file of a talk is refused, or memory ran out
 abbrev pub IsReadyStop : FilesView → FilesView → List ℕ → List ℕ → Stop → Type 0
@@ -50,9 +52,9 @@ IsReadyStop old new view catalog = IsStopAfter by_view (λ sources ops. IsSource
 -- given lines answer what was heard on the plan's document over sources, by a number of fills
 abbrev pub TalkOver : ℕ → StoresView → StoresView → Placed → Basis → List Heard → SinkView → SinkView → ℕ → List ℕ → Type 0
 TalkOver fills before after place basis asked sink sink' status lines =
-    (t : LabelledTree) × IsPlanDocument (all_documents before place) (plan_value basis.plan).ops t
-    × (let q = question_of before place basis.catalog (plan_value basis.plan).ops (steps_in asked) t in
-    IsAnsweredIn (in_talk asked q) before after q fills sink sink' status lines)
+    (f : Finished) × IsPlanDocument (all_documents before place) (plan_value basis.plan).ops f.tree
+    × (let q = question_of before place basis.catalog (plan_value basis.plan).ops (steps_in asked) f in
+    AreNamed q × IsAnsweredIn (in_talk asked q) before after q fills sink sink' status lines)
 
 -- how a talk ends over sources that are reached and views over them, by all their fills, where no more pages were asked than fills, the count of which is one of 64 bits
 abbrev pub IsReachedEnd : Reaching → Reaching → List (Option Plan) → Basis → InputView → InputView → SinkView → SinkView → Result Bool TalkFault → Type 0

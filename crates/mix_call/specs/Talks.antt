@@ -9,7 +9,7 @@ use Rattle.mix_top.specs.Course.{IsRefusedAfter, IsViewQuestion, by_view}
 use Rattle.mix_place.specs.Placed.{IsSourceRefused, SourceMayRead}
 use Rattle.mix_top.specs.FilesRead.{MayReadAfter}
 use Rattle.mix_top.specs.Outside.{Outside}
-use Rattle.mix_top.specs.Question.{Question}
+use Rattle.mix_top.specs.Question.{AreNamed, Question, finished}
 use Rattle.mix_place.specs.Reading.{IsEither}
 
 -- a file of a talk is refused, the first in this order: the catalog, the view, and the files of the sources that the view's plan reads
@@ -20,16 +20,18 @@ IsTalkRefused old new view catalog = IsRefusedAfter by_view (λ sources ops. IsS
 abbrev pub TalkMayRead : FilesView → List ℕ → List ℕ → List ℕ → Type 0
 TalkMayRead files view catalog = MayReadAfter by_view (λ sources ops. SourceMayRead files ops sources) files view catalog
 
--- what a talk asks whose files were all accepted: what is asked of its view over its catalog, and the steps that were heard
+-- what a talk asks whose files were all accepted: what is asked of its view over its catalog, and the steps that were heard, whose texts are said to name what they
+-- name
 pub record IsTalk (before : Outside) (view catalog : List ℕ) (asked : List Heard) (q : Question) : Type 0 where
   pub view_is : IsViewQuestion before view catalog q
   pub steps_are : q.steps ≡ steps_in asked
+  pub texts : AreNamed q
 
 -- how the answers of a talk are written: in order, with the lines that answer lines of no form between them
 abbrev pub in_talk : List Heard → Question → Manner
 in_talk asked q = record {
   lines_of = λ answers. spoken (names_of_sources q.sources) asked answers;
-  under = λ marks. talk_transcript q.tree (names_of_sources q.sources) marks asked;
+  under = λ notes. talk_transcript (finished q) (names_of_sources q.sources) notes asked;
   Begin = λ whole lines. (done : List Heard) × (later : List Heard) × (asked ≡ done ++ later) × (length whole ≡ length (steps_in done))
       × (rest : List ℕ) × (lines ≡ spoken (names_of_sources q.sources) done whole ++ rest);
 }

@@ -3,6 +3,7 @@ ghost use Rattle.std.specs.Prelude.{◌≡◌, ◌≤◌, ℕ, length, IfOk, IfE
 ghost use Rattle.mix_io.specs.Input.{InputView};
 ghost use Rattle.mix_io.specs.Views.{FilesView, SinkView, KeepsFiles};
 ghost use Rattle.plan_core.specs.PlanMade.{plan_value};
+ghost use Rattle.plan_evidence.specs.Held.{UsesHeld};
 ghost use Rattle.xmas_read.specs.Results.{names_of_sources};
 ghost use Rattle.mix_reach.specs.Reach.{CameFrom, reaching_in};
 ghost use Rattle.mix_reach.specs.Stores.{KeepsStores, StoresView, stores_in};
@@ -16,7 +17,8 @@ ghost use Rattle.mix_call.specs.Over.{IsEnd, IsReachedEnd, IsReady, IsReadyStop,
 ghost use Rattle.mix_call.specs.Talks.{TalkMayRead};
 
 use far_keep::Fars;
-use lazy_value::{Mediator, valid_plans_have_documents};
+use lazy_value::Mediator;
+use lazy_walk::valid_plans_have_documents;
 use lxp_core::Sources;
 use mix_catalog::Catalog;
 use mix_io::{Files, Input, Sink, Streams};
@@ -24,7 +26,7 @@ use mix_mount::Mounted;
 use mix_place::{Placement, Stop, load_catalog, load_view, place_sources, source_names};
 use mix_reach::{Reached, Stores};
 use mix_talk::{TalkFault, talk_lines};
-use mix_top::refuse;
+use mix_top::{plans_are_finished, refuse};
 use plan_core::{Plan, visited_are_matches};
 use std::alloc::Global;
 use table_keep::Tables;
@@ -77,6 +79,7 @@ fn talk_over<S: Sources, I: Input, K: Sink>(
     streams: &mut Streams<I, K>,
 ) -> Result<bool, TalkFault>
     requires over { IsPlanOver basis.catalog (plan_value basis.plan) }
+    requires uses { UsesHeld (plan_value basis.plan).ops }
     requires number { (S.view sources.old).count ≡ length basis.catalog }
     ensures came { S.came_from sources.old sources.new }
     ensures end { IsEnd (sources.new ≡ sources.old) (S.view sources.old) (S.view sources.new) basis
@@ -84,7 +87,6 @@ fn talk_over<S: Sources, I: Input, K: Sink>(
     ensures input { (I.view streams.old.input).faults ≤ (I.view streams.new.input).faults }
     ensures count { (K.view streams.old.out).faults ≤ (K.view streams.new.out).faults }
 {
-    valid_plans_have_documents();
     let Basis { catalog, plan } = basis;
     let names = source_names(alloc, &catalog)?;
     let mediator = Mediator::open(alloc, plan, sources)?;
@@ -100,6 +102,7 @@ fn talk_stacked<T: Tables, R: Fars, I: Input, K: Sink>(
     streams: &mut Streams<I, K>,
 ) -> (Result<bool, TalkFault>, Reached<T, R>)
     requires over { IsPlanOver basis.catalog (plan_value basis.plan) }
+    requires uses { UsesHeld (plan_value basis.plan).ops }
     requires placed { (files : FilesView)
         × ArePlaced files (plan_value basis.plan).ops basis.catalog (placed_of (reaching_in T.view R.view sources) views.items) }
     requires few { length basis.catalog ≤ 32 }
@@ -110,7 +113,7 @@ fn talk_stacked<T: Tables, R: Fars, I: Input, K: Sink>(
     ensures input { (I.view streams.old.input).faults ≤ (I.view streams.new.input).faults }
     ensures count { (K.view streams.old.out).faults ≤ (K.view streams.new.out).faults }
 {
-    valid_plans_have_documents();
+    plans_are_finished();
     match Stack::open(alloc, sources, views) {
         Ok(mut stack) => {
             let end = talk_over(alloc, basis, &mut stack, streams);
@@ -128,6 +131,7 @@ fn talk_ready<T: Tables, R: Fars, I: Input, K: Sink>(
     streams: &mut Streams<I, K>,
 ) -> (Result<bool, TalkFault>, Stores<T, R>)
     requires over { IsPlanOver ready.basis.catalog (plan_value ready.basis.plan) }
+    requires uses { UsesHeld (plan_value ready.basis.plan).ops }
     requires placed { let basis = ready.basis in
         (files : FilesView) × ArePlaced files (plan_value basis.plan).ops basis.catalog (placed ready) }
     requires few { length ready.basis.catalog ≤ 32 }

@@ -1,4 +1,7 @@
 mod Ending
+pub mod Letting
+mod Paid
+mod Paying
 mod Running
 pub mod SoFar
 mod Stepping

@@ -11,7 +11,7 @@ use Rattle.mix_script.specs.declared.step.Step.{Step}
 use Rattle.mix_script.specs.declared.answer.Answer.{Answer}
 use Rattle.mix_session.specs.Meaning.{Course, Meaning}
 use Rattle.mix_session.specs.Held.{IsSession}
-use Rattle.mix_session.specs.Stepped.{IsStep, Stepped}
+use Rattle.mix_session.specs.Stepped.{IsStep, NamesGiven, Stepped}
 use Rattle.mix_lines.specs.declared.fault.LinesFault.{LinesFault}
 use Rattle.mix_lines.specs.declared.fault.LinesFault.TheVariants.{OutOfMemory}
 use Rattle.mix_lines.specs.Cuts.{IsStepCut}
@@ -58,10 +58,10 @@ module _ {V W : Type 0} (c : Course W) (m m' : Meaning V W) (old v v' : View) (v
       cost = with_step;
     }
 
-    module _ (a : Answer) (is : IsStep m m' v.faults v'.faults values values' step.client step.act a) where
+    module _ (a : Answer) (is : IsStep m m' v.faults v'.faults values values' step.client step.act a) (given : NamesGiven m' values values' step.client step.act a) where
       -- where the step was answered, one step more was
       more : IsSoFar c m' old v' values' steps later (far.answers ++ a ∷ [])
-      more = next c m m' old v v' values values' steps step later far.answers far.so rises r done a is
+      more = next c m m' old v v' values values' steps step later far.answers far.so rises r done a is given
 
       -- where the step's line was written, the run has come one step further
       pub far_step : (after : Option (List ℕ)) → Appends now after (line_of names step.client a) → IsFar c m' old v' values' names steps before after (marked || is_fault a) later

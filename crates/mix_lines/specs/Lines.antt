@@ -1,34 +1,41 @@
 -- How the lines of answers end.
 use Rattle.std.specs.Prelude.{◌≡◌, ◌⊎◌, ℕ, ◌+◌, ◌≤◌, Bool, List, [], ◌∷◌, ◌++◌, length, take, Result, Ok, Err}
 use Rattle.mix_base.specs.Counts.{HasRisen, HasRisenBy}
-use Rattle.mix_tree.specs.Forest.{LabelledTree}
+use Rattle.node_text.specs.Node.{NodeValue}
 use Rattle.mix_io.specs.Views.{SinkView}
 use Rattle.mix_io.specs.Contents.{Appends}
 use Rattle.mix_script.specs.Names.{no_names}
 use Rattle.lxp_core.specs.View.{View}
 use Rattle.mix_script.specs.Trails.{TakeOneWay, names_on}
-use Rattle.mix_script.specs.Transcript.{names_after}
-use Rattle.mix_script.specs.Allowed.{AreAnswers, answer_lines, has_fault, faults_of, begun}
+use Rattle.mix_script.specs.Transcript.{Finished, IsRight, names_after}
+use Rattle.mix_script.specs.Allowed.{AreAnswers, answer_lines, has_fault, faults_of, begun, walks_owed}
 use Rattle.mix_session.specs.Meaning.{Course}
 use Rattle.mix_session.specs.Stepped.{act_toll, tree_toll}
+use Rattle.mix_session.specs.Tolls.{toll_from}
 use Rattle.mix_script.specs.Finished.{AreOf}
 use Rattle.mix_script.specs.declared.step.Step.{Step}
 use Rattle.mix_script.specs.declared.answer.Answer.{Answer}
 use Rattle.mix_lines.specs.declared.fault.LinesFault.{LinesFault}
 use Rattle.mix_lines.specs.declared.fault.LinesFault.TheVariants.{SinkFailed, OutOfMemory}
 
--- answers to the first steps on a course: each is one that its step may have; where a tree is the document, each is that
--- tree's under the mark that it shows; and the count of each source's faults rose by as many as there are faults of it
+-- what the walk to the node may cost that a text names, by what it says; nothing where it names none
+abbrev pub charge_named : {W : Type 0} → Course W → Finished → NodeValue → ℕ
+charge_named c f node = toll_from c.charge (f.named node)
+
+-- answers to the first steps on a course: each is one that its step may have; on a finished document that is the course's and
+-- says the right place of each text, each is the document's under the note that it shows; and the count of each source's
+-- faults rose by as many as there are faults of it
 pub record IsRun {W : Type 0} (c : Course W) (faults faults' : ℕ → ℕ) (steps : List Step) (answers : List Answer) : Type 0 where
   pub allowed : AreAnswers c.roots c.MayFail no_names answers steps
-  pub told : (t : LabelledTree) → c.IsDocument t → AreOf t no_names answers steps
+  pub told : (f : Finished) → c.IsDocument f.tree → IsRight c.NamesAt f steps → AreOf c.NamesAt f no_names answers steps
   pub counted : (s : ℕ) → HasRisenBy (faults_of s answers) (faults s) (faults' s)
 
--- no more fills were asked than the tolls of the steps that were begun come to: where no step takes more than one way, and
--- where a tree is the document
+-- no more fills were asked than the tolls of the steps that were begun come to: where no step takes more than one way; and
+-- where a tree is the document, with what the nodes that texts named may cost beside the tolls
 pub record IsLazy {W : Type 0} (c : Course W) (fills fills' : ℕ) (steps : List Step) (answers : List Answer) : Type 0 where
   pub ways : TakeOneWay steps → c.HasTolls → fills' ≤ fills + begun (act_toll c) (names_on c.trail) no_names answers steps
-  pub tree : c.HasTolls → (t : LabelledTree) → c.IsDocument t → fills' ≤ fills + begun (tree_toll c t) (names_after t) no_names answers steps
+  pub tree : c.HasTolls → (f : Finished) → c.IsDocument f.tree → IsRight c.NamesAt f steps
+      → fills' ≤ fills + (begun (tree_toll c f.tree) (names_after f) no_names answers steps + walks_owed (charge_named c f) 0 answers steps)
 
 -- all steps were answered, and the lines of their answers were written; a fault line was written where this is marked. The
 -- first says what the answers are, the second what they and one step more may have cost

@@ -17,7 +17,13 @@ fn marks(answer: &Answer) -> bool
 {
     match answer {
         Answer::Fault(_) => true,
-        Answer::Node | Answer::None | Answer::Label(_) | Answer::Text(_) | Answer::NoNode => false,
+        Answer::Node
+        | Answer::None
+        | Answer::Label(_)
+        | Answer::Text(_)
+        | Answer::NoNode
+        | Answer::Id(_)
+        | Answer::Foreign => false,
     }
 }
 

@@ -1,10 +1,12 @@
 // The steps of a script, answered on the document of a plan.
-ghost use Rattle.std.specs.Prelude.{◌≡◌, ◌≤◌, false, length};
-ghost use Rattle.mix_tree.specs.Forest.{LabelledTree};
+ghost use Rattle.std.specs.Prelude.{◌≡◌, ◌≤◌, length};
 ghost use Rattle.mix_io.specs.Views.{SinkView};
 ghost use Rattle.lxp_core.specs.View.{View};
-ghost use Rattle.lazy_value.specs.Mediators as mediator;
-ghost use Rattle.mix_session.specs.Walks.{IsDocument, plan_course};
+ghost use Rattle.lazy_value.specs.Named as mediator;
+ghost use Rattle.mix_script.specs.Transcript.{Finished, IsRight};
+ghost use Rattle.mix_session.specs.Meaning.{Course};
+ghost use Rattle.mix_session.specs.Stepped.{LetsAll};
+ghost use Rattle.mix_session.specs.Walks.{plan_course};
 ghost use Rattle.mix_lines.specs.Lines.{Ends};
 ghost use Rattle.mix_lines.specs.Told.{EndsOn};
 
@@ -32,11 +34,12 @@ pub fn run_lines<S: Sources, K: Sink>(
 ) -> Result<bool, LinesFault>
     requires mediator { mediator.IsMediatorOf (S.view s.old) m }
     requires names { length names.now ≡ (S.view s.old).count }
+    requires lets { LetsAll (plan_course (mediator.state_of (S.view s.old) m)) steps.now }
     ensures came { S.came_from s.old s.new }
     ensures ends { let c = plan_course (mediator.state_of (S.view s.old) m) in
         Ends c (S.view s.old) (S.view s.new) names.now steps.now (K.view out.old) (K.view out.new) result }
-    ensures told { (t : LabelledTree) → IsDocument (mediator.state_of (S.view s.old) m) t
-        → EndsOn false t names.now steps.now (K.view out.old).written (K.view out.new).written result }
+    ensures told { let c = plan_course (mediator.state_of (S.view s.old) m) in (f : Finished) → c.IsDocument f.tree → IsRight c.NamesAt f steps.now
+        → EndsOn c.roots c.NamesAt f names.now steps.now (K.view out.old).written (K.view out.new).written result }
     ensures count { (K.view out.old).faults ≤ (K.view out.new).faults }
 {
     write_lines(alloc, s, m, Script { steps, names }, out)

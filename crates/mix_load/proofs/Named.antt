@@ -18,7 +18,7 @@ use Rattle.plan_rewrite.proofs.OwnTree.{rewritten-tree}
 use Rattle.lazy_plan.specs.Bench.{ops_of, documents}
 use Rattle.lazy_binding.specs.World.{reads}
 use Rattle.lazy_value.specs.declared.mediator.Mediator.{Mediator}
-use Rattle.lazy_value.specs.Mediators.{state_of}
+use Rattle.lazy_value.specs.Named.{state_of}
 use Rattle.mix_session.specs.Walks.{IsDocument}
 use Rattle.mix_load.specs.People.{people_tree}
 use Rattle.mix_load.specs.View.{names_rule}

@@ -1,5 +1,5 @@
 -- A visit of many people: the view of their names, walked by a session.
-use Rattle.std.specs.Prelude.{◌≡◌, ℕ, zero, suc, ◌+◌, List, [], None, Some, length, codes}
+use Rattle.std.specs.Prelude.{◌≡◌, ℕ, zero, suc, ◌+◌, List, [], Some, length, codes}
 use Rattle.mix_tree.specs.Forest.{LabelledTree, none, alone}
 use Rattle.mix_tree.specs.Nodes.{Documents}
 use Rattle.mix_tree.specs.Weight.{tree_nodes}
@@ -8,7 +8,7 @@ use Rattle.mix_mount.specs.Mounts.{IsAlone, mounted_in, view_of}
 use Rattle.xmas_rule.specs.Meaning.{IsFinished}
 use Rattle.lazy_value.specs.declared.ids.NodeId.{NodeId}
 use Rattle.mix_script.specs.Names.{held}
-use Rattle.mix_script.specs.Transcript.{Names, answer_of, names_after}
+use Rattle.mix_script.specs.Transcript.{Names, answer_of, names_after, nothing, unnamed}
 use Rattle.mix_script.specs.declared.answer.Answer.{Answer}
 use Rattle.mix_script.specs.declared.step.Act.{Act}
 use Rattle.mix_session.specs.Held.{IsSession, HoldPlaces}
@@ -52,7 +52,7 @@ pub record IsOn (t : LabelledTree) (places : Names) (visitor : Visitor) : Type 0
 -- a visitor's answer to a command, and what its names hold after it, are those of the transcript on the tree that it walks
 abbrev pub Answers : Visitor → Visitor → Act → Answer → Type 0
 Answers old new act a =
-    (t : LabelledTree) (places : Names) → IsOn t places old → (a ≡ answer_of t places None [] act) × IsOn t (names_after t places [] act a) new
+    (t : LabelledTree) (places : Names) → IsOn t places old → (a ≡ answer_of (unnamed t) places nothing [] act) × IsOn t (names_after (unnamed t) places [] act a) new
 
 -- a visitor walks a given tree, and the name r holds its root
 pub record HoldsRoot (t : LabelledTree) (visitor : Visitor) : Type 0 where

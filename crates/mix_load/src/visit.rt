@@ -9,7 +9,8 @@ ghost use Rattle.mix_load.specs.Visit.{IsVisit};
 use crate::nodes::count_nodes;
 use crate::source::people_document;
 use crate::view::{label, names_rule};
-use lazy_value::{Mediator, valid_plans_have_documents};
+use lazy_value::Mediator;
+use lazy_walk::valid_plans_have_documents;
 use mix_mount::{Mount, Mounted};
 use mix_script::{Act, Answer, Step, Text, Way};
 use mix_session::Session;
@@ -58,10 +59,11 @@ fn text_of(alloc: Global, answer: Answer) -> Text
 }
 
 impl Visitor {
-    ghost use Rattle.std.specs.Prelude.{◌+◌, ◌<◌, ◌^◌, OnOk};
+    ghost use Rattle.std.specs.Prelude.{◌+◌, ◌<◌, ◌^◌, IsTrue, OnOk};
     ghost use Rattle.mix_tree.specs.Forest.{LabelledTree};
     ghost use Rattle.bracket_text.specs.Canonical.{canon};
     ghost use Rattle.mix_script.specs.Names.{no_names};
+    ghost use Rattle.mix_script.specs.Steps.{is_plain};
     ghost use Rattle.mix_script.specs.Transcript.{Names};
     ghost use Rattle.mix_load.specs.Visit.{Answers, AreNames, IsOn, HoldsRoot};
 
@@ -83,9 +85,10 @@ impl Visitor {
         })
     }
 
-    // Takes a command of the client without a name, and counts it.
+    // Takes a command of the client without a name, which neither writes an identifier down nor follows one, and counts it.
     fn take(&mut self, alloc: Global, act: Act) -> Result<Answer, AllocError>
         requires on { (t : LabelledTree) × (places : Names) × IsOn t places self.old }
+        requires plain { IsTrue (is_plain act) }
         requires room { self.old.commands + 1 < 2 ^ 64 }
         ensures answer { IfOk result (Answers self.old self.new act) }
         ensures commands { OnOk result (self.new.commands ≡ self.old.commands + 1) }

@@ -9,6 +9,7 @@ use Rattle.mix_script.specs.declared.step.Step.{Step}
 use Rattle.plan_core.specs.Plans.{PlanValue}
 use Rattle.xmas_rule.specs.Rules.{RuleValue}
 use Rattle.xmas_read.specs.Results.{names_of_sources}
+use Rattle.mix_script.specs.declared.step.Forms.{Forms}
 use Rattle.mix_place.specs.Files.{IsPlanFile, IsRuleFile, IsScript}
 use Rattle.mix_place.specs.Chosen.{IsChosenRefused}
 use Rattle.mix_place.specs.Documents.{StandsFor, StandsForNone}
@@ -20,8 +21,8 @@ use Rattle.mix_place.proofs.ReadingLaws.{reads_twice, reads_wider}
 use Rattle.mix_place.proofs.LoadLaws.{read_before, refused_before}
 
 -- a script that was read later was there before
-pub script_before : (old mid : FilesView) (path : List ℕ) (steps : List Step) → KeepsFiles old mid → IsScript mid path steps → IsScript old path steps
-script_before old mid path steps keeps s = record { text = s.text; read = read_before old mid path s.text (keeps.told path) s.read; accepted = s.accepted }
+pub script_before : (forms : Forms) (old mid : FilesView) (path : List ℕ) (steps : List Step) → KeepsFiles old mid → IsScript forms mid path steps → IsScript forms old path steps
+script_before forms old mid path steps keeps s = record { text = s.text; read = read_before old mid path s.text (keeps.told path) s.read; accepted = s.accepted }
 
 -- a view that was read later was there before
 pub rule_before : (old mid : FilesView) (path : List ℕ) (sources : List (List ℕ)) (v : RuleValue) → KeepsFiles old mid → IsRuleFile mid path sources v → IsRuleFile old path sources v

@@ -8,6 +8,7 @@ use Rattle.mix_place.specs.declared.refusal.Stop.{Stop}
 use Rattle.mix_place.specs.declared.refusal.Stop.TheVariants.{Refused, SinkFailed, OutOfMemory}
 use Rattle.mix_place.specs.Causes.{IsRead, IsNotAccepted, IsNoBytes, RefusesScript, IsCause}
 use Rattle.mix_script.specs.Steps.{steps_of}
+use Rattle.mix_script.specs.declared.step.Forms.{Forms}
 use Rattle.mix_script.specs.declared.script.ScriptFault.{ScriptFault}
 use Rattle.mix_script.specs.declared.script.ScriptFault.TheVariants as script
 use Rattle.mix_place.specs.Files.{IsRefused, IsRefusedLast}
@@ -42,9 +43,9 @@ load_stop_unread IsNone old new path SinkFailed h = h
 load_stop_unread IsNone old new path OutOfMemory h = h
 
 -- a text that is no script is refused for this fault
-pub script_refused : (text : List ℕ) (e : ScriptFault) → ((n : ℕ) → e ≡ script.Line n → steps_of text ≡ Err n) → RefusesScript text e
-script_refused text (script.Line n) h = h n refl
-script_refused text script.OutOfMemory h = tt
+pub script_refused : (forms : Forms) (text : List ℕ) (e : ScriptFault) → ((n : ℕ) → e ≡ script.Line n → steps_of forms text ≡ Err n) → RefusesScript forms text e
+script_refused forms text (script.Line n) h = h n refl
+script_refused forms text script.OutOfMemory h = tt
 
 -- what was read of a file later was there before
 pub read_before : (old mid : FilesView) (path text : List ℕ) → mid.told path ≡ old.told path → IsRead mid path text → IsRead old path text

@@ -13,6 +13,7 @@ use Rattle.json_text.specs.Answers.{Refuses as RefusesJson}
 use Rattle.json_text.specs.declared.fault.JsonFault.{JsonFault}
 use Rattle.json_text.specs.declared.fault.JsonFault.TheVariants as json
 use Rattle.mix_script.specs.Steps.{steps_of}
+use Rattle.mix_script.specs.declared.step.Forms.{Forms}
 use Rattle.mix_script.specs.declared.script.ScriptFault.{ScriptFault}
 use Rattle.mix_script.specs.declared.script.ScriptFault.TheVariants as script
 use Rattle.mix_catalog.specs.Sources.{Refuses as RefusesCatalog}
@@ -51,14 +52,14 @@ IsNoCsv columns text fault = (e : CsvFault) × (fault ≡ Csv e) × Explains tex
 abbrev pub IsNoJson : List ℕ → FileFault → Type 0
 IsNoJson text fault = (e : JsonFault) × (fault ≡ Json e) × RefusesJson text e
 
--- a fault of a script names the first line of its text that is no step; want of memory says nothing
-abbrev pub RefusesScript : List ℕ → ScriptFault → Type 0
-RefusesScript text (script.Line n) = steps_of text ≡ Err n
-RefusesScript text script.OutOfMemory = Unit {0}
+-- a fault of a script names the first line of its text that is no step, by the forms that lines may have; want of memory says nothing
+abbrev pub RefusesScript : Forms → List ℕ → ScriptFault → Type 0
+RefusesScript forms text (script.Line n) = steps_of forms text ≡ Err n
+RefusesScript forms text script.OutOfMemory = Unit {0}
 
--- a fault says why a text is no script
-abbrev pub IsNoScript : List ℕ → FileFault → Type 0
-IsNoScript text fault = (e : ScriptFault) × (fault ≡ Script e) × RefusesScript text e
+-- a fault says why a text is no script, by the forms that its lines may have
+abbrev pub IsNoScript : Forms → List ℕ → FileFault → Type 0
+IsNoScript forms text fault = (e : ScriptFault) × (fault ≡ Script e) × RefusesScript forms text e
 
 -- a fault says why a text is no catalog
 abbrev pub IsNoCatalog : List ℕ → FileFault → Type 0

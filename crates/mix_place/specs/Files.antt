@@ -1,6 +1,7 @@
 -- Files that were read whole: accepted as what they spell, or refused.
 use Rattle.std.specs.Prelude.{◌≡◌, ◌⊎◌, ◌-◌, ℕ, List, Ok}
 use Rattle.mix_io.specs.Views.{FilesView, ReadsOnly}
+use Rattle.mix_script.specs.declared.step.Forms.{Forms}
 use Rattle.mix_script.specs.declared.step.Step.{Step}
 use Rattle.mix_script.specs.Steps.{steps_of}
 use Rattle.mix_catalog.specs.declared.source.SourceSpec.{SourceSpec}
@@ -14,11 +15,11 @@ use Rattle.mix_place.specs.declared.refusal.FileFault.{FileFault}
 use Rattle.mix_place.specs.Causes.{IsRead, IsCause, IsRefusalLine, status_of}
 use Rattle.mix_place.specs.Reading.{ReadsAmong}
 
--- a file was read whole and is a script of given steps
-pub record IsScript (files : FilesView) (path : List ℕ) (steps : List Step) : Type 0 where
+-- a file was read whole and is a script of given steps, by the forms that its lines may have
+pub record IsScript (forms : Forms) (files : FilesView) (path : List ℕ) (steps : List Step) : Type 0 where
   pub text : List ℕ
   pub read : IsRead files path text
-  pub accepted : steps_of text ≡ Ok steps
+  pub accepted : steps_of forms text ≡ Ok steps
 
 -- a file was read whole and is a catalog of given sources
 pub record IsCatalogFile (files : FilesView) (path : List ℕ) (sources : List SourceSpec) : Type 0 where

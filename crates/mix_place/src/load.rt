@@ -1,7 +1,9 @@
 // Files that a command reads whole and accepts, one after another.
-ghost use Rattle.std.specs.Prelude.{◌≡◌, ◌≤◌, List, ℕ, true, false, length, OnOk, IfOk, IfErr};
+ghost use Rattle.std.specs.Prelude.{◌≡◌, ◌≤◌, List, ℕ, true, false, length, Ok, Err, OnOk, IfOk, IfErr, IsErrOf};
 ghost use Rattle.mix_catalog.specs.Sources.{IsChunk};
 ghost use Rattle.mix_io.specs.Views.{KeepsFiles, ReadsOnly};
+ghost use Rattle.mix_script.specs.Steps.{ArePlain, steps_of};
+ghost use Rattle.mix_script.specs.declared.step.Forms.TheVariants.{Plain};
 ghost use Rattle.xmas_rule.specs.RuleMade.{rule_of};
 ghost use Rattle.xmas_rule.specs.Rules.{IsAccepted};
 ghost use Rattle.xmas_read.specs.Results.{names_of_sources};
@@ -22,7 +24,7 @@ use json_text::read_json;
 use mix_catalog::{Catalog, SourceSpec, read_catalog};
 use mix_io::{Files, ReadWhole, read_whole};
 use mix_mount::{Mount, Mounted};
-use mix_script::{Step, read_script};
+use mix_script::{Forms, ScriptFault, Step, read_script, read_script_ids};
 use mix_tree::Label;
 use plan_core::Plan;
 use plan_read::read_plan;
@@ -129,16 +131,34 @@ pub fn mount_alone<F: Files>(
     Ok(Mounted::new(vec![in alloc; mount]?, NoTables::new()))
 }
 
-/// The steps of a file that is a script. An error is as with `mount_tree`.
-pub fn load_script<F: Files>(alloc: Global, files: &mut F, path: &str) -> Result<Vec<Step>, Stop>
+// The steps of a script, by the forms that its lines may have.
+fn read_steps(alloc: Global, text: &[u8], forms: Forms) -> Result<Vec<Step>, ScriptFault>
+    ensures steps { IfOk result (λ steps. steps_of forms text.now ≡ Ok steps.items) }
+    ensures plain { forms ≡ Plain → IfOk result (λ steps. ArePlain steps.items) }
+    ensures line { (n : ℕ) → IsErrOf result (ScriptFault.Line n) → steps_of forms text.now ≡ Err n }
+{
+    match forms {
+        Forms::Plain => read_script(alloc, text),
+        Forms::WithIds => read_script_ids(alloc, text),
+    }
+}
+
+/// The steps of a file that is a script, by the forms that its lines may have. An error is as with `mount_tree`.
+pub fn load_script<F: Files>(
+    alloc: Global,
+    files: &mut F,
+    path: &str,
+    forms: Forms,
+) -> Result<Vec<Step>, Stop>
     ensures keeps { KeepsFiles (F.view files.old) (F.view files.new) }
     ensures others { ReadsOnly path.now (F.view files.old) (F.view files.new) }
     ensures steady { OnOk result ((p : List ℕ) → (F.view files.new).faults p ≡ (F.view files.old).faults p) }
-    ensures ok { IfOk result (λ steps. IsScript (F.view files.old) path.now steps.items) }
-    ensures err { IfErr result (IsLoadStop IsNoScript (F.view files.old) (F.view files.new) path.now) }
+    ensures ok { IfOk result (λ steps. IsScript forms (F.view files.old) path.now steps.items) }
+    ensures plain { forms ≡ Plain → IfOk result (λ steps. ArePlain steps.items) }
+    ensures err { IfErr result (IsLoadStop (IsNoScript forms) (F.view files.old) (F.view files.new) path.now) }
 {
     let bytes = load(alloc, files, path)?;
-    match read_script(alloc, &bytes) {
+    match read_steps(alloc, &bytes, forms) {
         Ok(steps) => Ok(steps),
         Err(fault) => Err(refused(alloc, path, FileFault::Script(fault))),
     }

@@ -95,7 +95,8 @@ pub fn mount_sources<F: Files>(
     ensures reads { let old = F.view files.old in
         ReadsAmong (ChosenMayRead old (reads_source (plan_value plan.now).ops) catalog.now) old (F.view files.new) }
     ensures steady { OnOk result ((p : List ℕ) → (F.view files.new).faults p ≡ (F.view files.old).faults p) }
-    ensures read { OnOk result (ReadsAmong (IsFileBefore (reads_source (plan_value plan.now).ops) catalog.now (length catalog.now)) (F.view files.old) (F.view files.new)) }
+    ensures read { let chosen = reads_source (plan_value plan.now).ops in
+        OnOk result (ReadsAmong (IsFileBefore chosen catalog.now (length catalog.now)) (F.view files.old) (F.view files.new)) }
     ensures ok { IfOk result (λ docs. AreMounted (F.view files.old) (plan_value plan.now).ops catalog.now docs.items) }
     ensures err { IfErr result (IsMountStop (F.view files.old) (F.view files.new) (reads_source (plan_value plan.now).ops) catalog.now) }
 {
@@ -163,8 +164,8 @@ pub fn mount_more<F: Files>(
     Ok(())
 }
 
-/// The mounts of all sources of a catalog, none of them a view, by their numbers: their documents, read in the order of the catalog, each accepted before the next is read.
-/// That of a table asks for no page yet. An error names the first file that is refused.
+/// The mounts of all sources of a catalog, none of them a view, by their numbers: their documents, read in the order of the catalog, each accepted before the
+/// next is read. That of a table asks for no page yet. An error names the first file that is refused.
 pub fn mount_all<F: Files>(
     alloc: Global,
     files: &mut F,

@@ -3,6 +3,7 @@ ghost use Rattle.std.specs.Prelude.{◌≡◌, List, ℕ, true, OnOk, IfOk, IfEr
 ghost use Rattle.mix_catalog.specs.Grammar.{file_of};
 ghost use Rattle.mix_io.specs.Views.{KeepsFiles, ReadsOnly};
 ghost use Rattle.plan_core.specs.PlanMade.{plan_value};
+ghost use Rattle.plan_evidence.specs.Held.{UsesHeld};
 ghost use Rattle.xmas_read.specs.Results.{names_of_sources};
 ghost use Rattle.mix_place.specs.Causes.{IsNoRule};
 ghost use Rattle.mix_place.specs.Plans.{IsPlanOver, IsViewPlan};
@@ -19,6 +20,7 @@ use mix_catalog::{Catalog, SourceSpec};
 use mix_io::Files;
 use plan_core::Plan;
 use plan_rewrite::plan_view;
+use plan_uses::plans_of_views_use_what_is_held;
 use std::alloc::Global;
 use view_class::reads_source;
 
@@ -35,8 +37,10 @@ pub fn load_view<F: Files>(
     ensures steady { OnOk result ((p : List ℕ) → (F.view files.new).faults p ≡ (F.view files.old).faults p) }
     ensures ok { IfOk result (λ plan. IsViewPlan (F.view files.old) path.now catalog.now (plan_value plan)) }
     ensures over { IfOk result (λ plan. IsPlanOver catalog.now (plan_value plan)) }
+    ensures uses { IfOk result (λ plan. UsesHeld (plan_value plan).ops) }
     ensures err { IfErr result (IsLoadStop (IsNoRule (names_of_sources catalog.now)) (F.view files.old) (F.view files.new) path.now) }
 {
+    plans_of_views_use_what_is_held();
     let rule = load_rule(alloc, files, path, catalog)?;
     let names = source_names(alloc, catalog)?;
     Ok(plan_view(alloc, &rule, &names)?)

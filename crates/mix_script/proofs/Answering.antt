@@ -4,9 +4,9 @@ use Rattle.std.proofs.lemmas.Bool.Decides.{nat_tests}
 use Rattle.std.proofs.lemmas.Bool.{false≢true}
 use Rattle.mix_base.specs.Counts.{HasRisen, HasRisenBy}
 use Rattle.mix_script.specs.Answers.{IsNamed}
-use Rattle.mix_script.specs.Allowed.{Nodes, MayFind, MayFindRoot, MayRead, MayPrint, WhereHeld, MayAnswer, nodes_after, AreAnswers, mark_of, is_fault, has_fault, is_mark_of, faults_of}
+use Rattle.mix_script.specs.Allowed.{Nodes, MayFind, MayFindRoot, MayRead, MayPrint, MaySpell, WhereHeld, MayAnswer, nodes_after, AreAnswers, mark_of, is_fault, has_fault, is_mark_of, faults_of}
 use Rattle.mix_script.specs.declared.step.Act.{Act}
-use Rattle.mix_script.specs.declared.step.Act.TheVariants.{Root, Move, Select, Fetch, Print}
+use Rattle.mix_script.specs.declared.step.Act.TheVariants.{Root, Move, Select, Fetch, Print, Id, At}
 use Rattle.mix_script.specs.declared.step.Step.{Step}
 use Rattle.mix_script.specs.declared.answer.Answer.{Answer}
 use Rattle.mix_script.specs.declared.answer.Answer.TheVariants as answer
@@ -32,6 +32,11 @@ module _ (roots : Bool) (MayFail : ℕ → Type 0) where
   printed_fault s None h = cc
   printed_fault s (Some node) h = h
 
+  -- no fault is answered where an identifier is written down
+  spelled_fault : (s : ℕ) (o : Option (Unit {0})) → WhereHeld o MaySpell (answer.Fault s) → MayFail s
+  spelled_fault s None h = cc
+  spelled_fault s (Some node) h = absurd h
+
   -- the source of a fault that may be answered is one that may fail
   pub fault_may : (nodes : Nodes) (client : List ℕ) (act : Act) (s : ℕ) → MayAnswer roots MayFail nodes client act (answer.Fault s) → MayFail s
   fault_may nodes client (Root name) s h = root_fault roots s h
@@ -39,6 +44,8 @@ module _ (roots : Bool) (MayFail : ℕ → Type 0) where
   fault_may nodes client (Select name from label) s h = sought_fault s (nodes client from) h
   fault_may nodes client (Fetch from) s h = read_fault s (nodes client from) h
   fault_may nodes client (Print from) s h = printed_fault s (nodes client from) h
+  fault_may nodes client (Id from) s h = spelled_fault s (nodes client from) h
+  fault_may nodes client (At name node) s h = h
 
   -- an answer that may be given has a name for its source
   pub may_named : (count : ℕ) (nodes : Nodes) (client : List ℕ) (act : Act) (a : Answer) → ((s : ℕ) → MayFail s → s < count) → MayAnswer roots MayFail nodes client act a → IsNamed count a
@@ -48,6 +55,8 @@ module _ (roots : Bool) (MayFail : ℕ → Type 0) where
   may_named count nodes client act (answer.Text x) h may = tt
   may_named count nodes client act answer.NoNode h may = tt
   may_named count nodes client act (answer.Fault s) h may = h s (fault_may nodes client act s may)
+  may_named count nodes client act (answer.Id x) h may = tt
+  may_named count nodes client act answer.Foreign h may = tt
 
   -- an answer is no fault where no source that may fail has one among them
   unmarked_answer : (nodes : Nodes) (client : List ℕ) (act : Act) (a : Answer) (answers : List Answer) → MayAnswer roots MayFail nodes client act a → ((s : ℕ) → MayFail s → faults_of s (a ∷ answers) ≡ 0) → mark_of a ≡ None
@@ -56,6 +65,8 @@ module _ (roots : Bool) (MayFail : ℕ → Type 0) where
   unmarked_answer nodes client act (answer.Label l) answers may none = refl
   unmarked_answer nodes client act (answer.Text x) answers may none = refl
   unmarked_answer nodes client act answer.NoNode answers may none = refl
+  unmarked_answer nodes client act (answer.Id x) answers may none = refl
+  unmarked_answer nodes client act answer.Foreign answers may none = refl
   unmarked_answer nodes client act (answer.Fault s) answers may none = absurd (let h = none s (fault_may nodes client act s may) in itself (s == s) (own s) (faults_of s answers) h)
     where
       own : (n : ℕ) → (n == n) ≡ true
@@ -89,6 +100,8 @@ counted_answer before now answer.None h rose s = let k = h s in omega (arith, k)
 counted_answer before now (answer.Label l) h rose s = let k = h s in omega (arith, k)
 counted_answer before now (answer.Text x) h rose s = let k = h s in omega (arith, k)
 counted_answer before now answer.NoNode h rose s = let k = h s in omega (arith, k)
+counted_answer before now (answer.Id x) h rose s = let k = h s in omega (arith, k)
+counted_answer before now answer.Foreign h rose s = let k = h s in omega (arith, k)
 counted_answer before now (answer.Fault n) h rose s = counted_first (n == s) (before s) (now s) (h s) (λ e. subst (λ m. HasRisen (before m) (now m)) (same e) (rose n refl))
   where
     same : (n == s) ≡ true → n ≡ s

@@ -4,9 +4,11 @@ use Rattle.mix_base.proofs.Choices.{none_some}
 use Rattle.mix_words.specs.Words.{is_blank, words_of, with_first, ends_word}
 use Rattle.mix_words.specs.Places.{word_from, place_of_word}
 use Rattle.mix_words.proofs.WordPlaces.{word_from-other, word_from-next}
-use Rattle.mix_script.specs.Forms.{act_of}
+use Rattle.mix_script.specs.Forms.{act_by}
 use Rattle.mix_script.specs.Lines.{act_from, act_in}
 use Rattle.mix_script.specs.declared.step.Act.{Act}
+use Rattle.mix_script.specs.declared.step.Forms.{Forms}
+use Rattle.mix_script.specs.declared.step.Forms.TheVariants.{Plain, WithIds}
 
 -- words of which the first gets a byte more before it are as many
 length-with_first : (b : ℕ) (words : List (List ℕ)) → 0 < length words → length (with_first b words) ≡ length words
@@ -61,17 +63,18 @@ none_from (c ∷ cs) = by_case (is_blank c) refl (none_from cs)
           word_from-other false n at c cs refl ∙ ap (λ t. word_from t n (at + 1) cs) k ∙ more.within n (at + 1) c k (omega (arith, h, words_on b c cs e k));
     }
 
--- words that end with a name or root are at most four
-few_act : (words : List (List ℕ)) (a : Act) → act_of words ≡ Some a → length words ≤ 4
-few_act [] a e = omega arith
-few_act (w ∷ []) a e = omega arith
-few_act (command ∷ y ∷ []) a e = omega arith
-few_act (x ∷ is ∷ command ∷ []) a e = omega arith
-few_act (x ∷ is ∷ command ∷ y ∷ []) a e = omega arith
-few_act (x ∷ is ∷ command ∷ y ∷ w ∷ words) a e = none_some a e
+-- words that ask for something are at most four
+few_act : (forms : Forms) (words : List (List ℕ)) (a : Act) → act_by forms words ≡ Some a → length words ≤ 4
+few_act forms [] a e = omega arith
+few_act forms (w ∷ []) a e = omega arith
+few_act forms (command ∷ y ∷ []) a e = omega arith
+few_act forms (x ∷ is ∷ command ∷ []) a e = omega arith
+few_act forms (x ∷ is ∷ command ∷ y ∷ []) a e = omega arith
+few_act Plain (x ∷ is ∷ command ∷ y ∷ w ∷ words) a e = none_some a e
+few_act WithIds (x ∷ is ∷ command ∷ y ∷ w ∷ words) a e = none_some a e
 
--- what words ask for that end with a name or root is what their line asks for
-pub few_words : (line : List ℕ) (a : Act) → act_of (words_of line) ≡ Some a → Some a ≡ act_in line
-few_words line a e =
-    let none : place_of_word 4 line ≡ None = (none_from line).apart 4 0 (few_act (words_of line) a e) in
-    sym (ap (act_from line) none ∙ e)
+-- what the words of a line ask for, of no more than four, is what the line asks for
+pub few_words : (forms : Forms) (line : List ℕ) (a : Act) → act_by forms (words_of line) ≡ Some a → Some a ≡ act_in forms line
+few_words forms line a e =
+    let none : place_of_word 4 line ≡ None = (none_from line).apart 4 0 (few_act forms (words_of line) a e) in
+    sym (ap (act_from forms line) none ∙ e)

@@ -7,6 +7,7 @@ use Rattle.mix_words.proofs.WordPlaces.{word_from-other, word_from-next, word_fr
 use Rattle.mix_script.proofs.LineWords.{blank_prefix}
 use Rattle.mix_script.proofs.FewWords.{ends_before, goes_on, none_from, some_word}
 use Rattle.mix_script.specs.LineWords.{NoClientFirst}
+use Rattle.mix_script.specs.declared.step.Forms.{Forms}
 use Rattle.mix_script.specs.Lines.{act_in, client_named, client_of, step_after, step_from, step_in, step_with}
 
 -- no word stands before the next one
@@ -70,18 +71,18 @@ first_before (b ∷ bs) at place w ws h are = by_case (is_blank b) refl (first_b
         (suc more.0, (let there = more.1 in omega arith), more.2)
 
 -- a line whose first word names no client has no prefix
-pub no_prefix : (line : List ℕ) → NoClientFirst (words_of line) → option_map (step_with []) (act_in line) ≡ step_in line
-no_prefix line first = by_words (words_of line) refl first
+pub no_prefix : (forms : Forms) (line : List ℕ) → NoClientFirst (words_of line) → option_map (step_with []) (act_in forms line) ≡ step_in forms line
+no_prefix forms line first = by_words (words_of line) refl first
   where
     by_place : (w : List ℕ) (ws : List (List ℕ)) → words_of line ≡ w ∷ ws → client_named w ≡ None → (o : Option ℕ) → place_of_word 1 line ≡ o
-        → option_map (step_with []) (act_in line) ≡ step_in line
-    by_place w ws are none None e = sym (ap (step_from line) e)
+        → option_map (step_with []) (act_in forms line) ≡ step_in forms line
+    by_place w ws are none None e = sym (ap (step_from forms line) e)
     by_place w ws are none (Some at) e =
         let before = first_before line 0 at w ws e are in
         let place : before.0 ≡ at = (let there = before.1 in omega arith) in
         let prefix : words_of (take at line) ≡ w ∷ [] = ap (λ k. words_of (take k line)) (sym place) ∙ before.2 in
-        sym (ap (step_from line) e ∙ ap (λ l. step_after line at (client_of l)) prefix ∙ ap (step_after line at) none)
+        sym (ap (step_from forms line) e ∙ ap (λ l. step_after forms line at (client_of l)) prefix ∙ ap (step_after forms line at) none)
 
-    by_words : (ws : List (List ℕ)) → words_of line ≡ ws → NoClientFirst ws → option_map (step_with []) (act_in line) ≡ step_in line
-    by_words [] are none = sym (ap (step_from line) ((none_from line).apart 1 0 (omega (arith, ap length are))))
+    by_words : (ws : List (List ℕ)) → words_of line ≡ ws → NoClientFirst ws → option_map (step_with []) (act_in forms line) ≡ step_in forms line
+    by_words [] are none = sym (ap (step_from forms line) ((none_from line).apart 1 0 (omega (arith, ap length are))))
     by_words (w ∷ ws) are none = by_place w ws are none (place_of_word 1 line) refl

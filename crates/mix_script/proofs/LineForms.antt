@@ -7,6 +7,7 @@ use Rattle.mix_tree.specs.LabelReads.{seen_of}
 use Rattle.mix_tree.specs.declared.label_read.LabelRead.{LabelRead}
 use Rattle.mix_tree.specs.declared.label_read.LabelRead.TheVariants.{Got, Unexpected, Ends}
 use Rattle.mix_words.specs.Words.{words_of}
+use Rattle.mix_script.specs.declared.step.Forms.{Forms}
 use Rattle.mix_script.specs.Forms.{select_of}
 use Rattle.mix_script.specs.Lines.{before_colon, no_words, label_alone, step_in, utf8_step}
 
@@ -60,13 +61,13 @@ alone_select line words seen label end e none =
     sym (ap (λ s. option_and_then (select_of words) (label_alone s)) e ∙ ap (λ t. option_and_then (select_of words) (cond t (Some label) None)) none)
 
 -- a line that is no UTF-8 has no step
-pub no_utf8 : (line : List ℕ) → ¬ (IsUtf8 line) → None ≡ utf8_step line
-no_utf8 line h = by_case (is_utf8 line) refl
+pub no_utf8 : (forms : Forms) (line : List ℕ) → ¬ (IsUtf8 line) → None ≡ utf8_step forms line
+no_utf8 forms line h = by_case (is_utf8 line) refl
   where
-    by_case : (b : Bool) → is_utf8 line ≡ b → None ≡ cond (is_utf8 line) (step_in line) None
+    by_case : (b : Bool) → is_utf8 line ≡ b → None ≡ cond (is_utf8 line) (step_in forms line) None
     by_case true e = absurd (h (IsUtf8-from_is_utf8 line e))
     by_case false e = rw e refl
 
 -- a line that is UTF-8 has the step of its words
-pub utf8_line : (line : List ℕ) → IsUtf8 line → step_in line ≡ utf8_step line
-utf8_line line h = sym (ap (λ b. cond b (step_in line) None) (is_utf8-from_IsUtf8 line h))
+pub utf8_line : (forms : Forms) (line : List ℕ) → IsUtf8 line → step_in forms line ≡ utf8_step forms line
+utf8_line forms line h = sym (ap (λ b. cond b (step_in forms line) None) (is_utf8-from_IsUtf8 line h))

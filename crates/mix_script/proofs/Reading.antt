@@ -4,6 +4,7 @@ use Rattle.std.proofs.lemmas.List.{drop_more}
 use Rattle.std.specs.Result.{IsErrOf}
 use Rattle.mix_script.specs.declared.script.ScriptFault.{ScriptFault}
 use Rattle.mix_script.specs.declared.script.ScriptFault.TheVariants.{Line, OutOfMemory}
+use Rattle.mix_script.specs.declared.step.Forms.{Forms}
 use Rattle.mix_script.specs.declared.step.Step.{Step}
 use Rattle.mix_script.specs.Steps.{line_steps, with_line, steps_from}
 
@@ -18,21 +19,21 @@ after_two prefix new n (Ok steps) = ap Ok (append_assoc prefix new steps)
 after_two prefix new n (Err m) = refl
 
 -- the steps of lines from a place on are those of the line there, and those of the lines after it
-at_line : (lines : List (List ℕ)) (i n : ℕ) → i < length lines → steps_from n (drop i lines) ≡ with_line (line_steps (get_or lines i [])) n (steps_from (n + 1) (drop (i + 1) lines))
-at_line lines i n h = ap (steps_from n) (drop_more lines i [] h)
+at_line : (forms : Forms) (lines : List (List ℕ)) (i n : ℕ) → i < length lines → steps_from forms n (drop i lines) ≡ with_line (line_steps forms (get_or lines i [])) n (steps_from forms (n + 1) (drop (i + 1) lines))
+at_line forms lines i n h = ap (steps_from forms n) (drop_more lines i [] h)
 
 -- with the steps of one line more, the steps so far before the rest are still those of the script
-pub line_taken : (lines : List (List ℕ)) (i n : ℕ) (prefix new more : List Step) (whole : Result (List Step) ℕ) → i < length lines → line_steps (get_or lines i []) ≡ Some new → more ≡ prefix ++ new
-    → after_steps prefix (steps_from n (drop i lines)) ≡ whole → after_steps more (steps_from (n + 1) (drop (i + 1) lines)) ≡ whole
-line_taken lines i n prefix new more whole h a m e =
-    ap (λ steps. after_steps steps (steps_from (n + 1) (drop (i + 1) lines))) m ∙ after_two prefix new n (steps_from (n + 1) (drop (i + 1) lines))
-    ∙ ap (after_steps prefix) (ap (λ o. with_line o n (steps_from (n + 1) (drop (i + 1) lines))) (sym a) ∙ sym (at_line lines i n h)) ∙ e
+pub line_taken : (forms : Forms) (lines : List (List ℕ)) (i n : ℕ) (prefix new more : List Step) (whole : Result (List Step) ℕ) → i < length lines → line_steps forms (get_or lines i []) ≡ Some new → more ≡ prefix ++ new
+    → after_steps prefix (steps_from forms n (drop i lines)) ≡ whole → after_steps more (steps_from forms (n + 1) (drop (i + 1) lines)) ≡ whole
+line_taken forms lines i n prefix new more whole h a m e =
+    ap (λ steps. after_steps steps (steps_from forms (n + 1) (drop (i + 1) lines))) m ∙ after_two prefix new n (steps_from forms (n + 1) (drop (i + 1) lines))
+    ∙ ap (after_steps prefix) (ap (λ o. with_line o n (steps_from forms (n + 1) (drop (i + 1) lines))) (sym a) ∙ sym (at_line forms lines i n h)) ∙ e
 
 -- a line of no form refuses the script
-pub line_refused : (lines : List (List ℕ)) (i n : ℕ) (prefix : List Step) (whole : Result (List Step) ℕ) → i < length lines → line_steps (get_or lines i []) ≡ None
-    → after_steps prefix (steps_from n (drop i lines)) ≡ whole → whole ≡ Err n
-line_refused lines i n prefix whole h a e =
-    sym e ∙ ap (after_steps prefix) (at_line lines i n h ∙ ap (λ o. with_line o n (steps_from (n + 1) (drop (i + 1) lines))) a)
+pub line_refused : (forms : Forms) (lines : List (List ℕ)) (i n : ℕ) (prefix : List Step) (whole : Result (List Step) ℕ) → i < length lines → line_steps forms (get_or lines i []) ≡ None
+    → after_steps prefix (steps_from forms n (drop i lines)) ≡ whole → whole ≡ Err n
+line_refused forms lines i n prefix whole h a e =
+    sym e ∙ ap (after_steps prefix) (at_line forms lines i n h ∙ ap (λ o. with_line o n (steps_from forms (n + 1) (drop (i + 1) lines))) a)
 
 -- the fault of a result; where there is none, want of memory
 abbrev fault_in : {T : Type 0} → Result T ScriptFault → ScriptFault

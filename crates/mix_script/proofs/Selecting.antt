@@ -1,12 +1,12 @@
 -- A line asks for the select of a label where it spells that label after its words, and there alone.
-use Rattle.std.proofs.Common.{◌≡◌, ◌⊎◌, ◌+◌, ◌∙◌, ℕ, Bool, true, false, cond, ◌&&◌, ◌==◌, List, [], ◌∷◌, ◌++◌, Option, Some, None, option_map, option_and_then, refl, sym, ap, subst, arith, length, take, drop, inl, inr}
+use Rattle.std.proofs.Common.{◌≡◌, ◌⊎◌, ◌+◌, ◌∙◌, ℕ, Bool, true, false, cond, ◌&&◌, ◌==◌, List, [], ◌∷◌, ◌++◌, Option, Some, None, option_and_then, refl, sym, ap, subst, arith, length, take, drop, inl, inr}
 use Rattle.std.specs.Prelude.{IsTrue, codes}
 use Rattle.std.specs.Str.{bytes_eq}
 use Rattle.std.proofs.lemmas.Bool.Decides.{nat_tests}
 use Rattle.std.proofs.lemmas.List.{take-append-drop}
 use Rattle.std.proofs.lemmas.Slice.Eq.{bytes_eq-Decides}
 use Rattle.std.proofs.Math.Seq.{take-append_seam, drop-append_seam}
-use Rattle.mix_base.proofs.Choices.{and_parts, some_is, none_some}
+use Rattle.mix_base.proofs.Choices.{and_parts, some_is, none_some, Gives}
 use Rattle.mix_tree.specs.LabelGrammar.{SpellsLabel}
 use Rattle.mix_tree.specs.LabelMachine.{Spot, start, in_bare, in_quotes, in_escape, after_quote, step, run, label_in, Seen, got, unexpected, ends, seen_from}
 use Rattle.mix_tree.proofs.LabelAnswers.{run_writes_some}
@@ -17,39 +17,20 @@ use Rattle.mix_tree.proofs.LabelTaken.{seen_byte}
 use Rattle.mix_words.specs.Places.{ends_blank, place_of_word}
 use Rattle.mix_words.specs.Words.{is_blank, is_name, words_of, with_first, ends_word}
 use Rattle.mix_words.proofs.WordPlaces.{place_apart, place_found}
-use Rattle.mix_script.specs.Forms.{act_of, act_named, reading_named, is_select_form, select_of, way_named}
+use Rattle.mix_script.specs.Forms.{act_of, id_act_of, act_by, is_select_form, select_of}
 use Rattle.mix_script.specs.Lines.{no_words, label_alone, act_from, act_in}
 use Rattle.mix_script.specs.Selects.{IsSelectOf, SelectsAreSpelled}
-use Rattle.mix_script.specs.declared.step.Act.{Act}
-use Rattle.mix_script.specs.declared.step.Act.TheVariants.{Root, Move, Select, Fetch, Print}
-use Rattle.mix_script.specs.declared.step.Way.{Way}
+use Rattle.mix_script.specs.declared.step.Act.TheVariants.{Select}
+use Rattle.mix_script.specs.declared.step.Forms.{Forms}
+use Rattle.mix_script.specs.declared.step.Forms.TheVariants.{Plain, WithIds}
+use Rattle.mix_script.proofs.ActForms.{NoSelect, no_select_of, no_select_id, either_gives}
 
 -- OTHER FORMS
 
--- a choice of nothing is no select
-no_choice : {Q : Type 0} (c : Bool) (o : Option Act) (a : Act) → (o ≡ Some a → Q) → cond c o None ≡ Some a → Q
-no_choice true o a h e = h e
-no_choice false o a h e = none_some a e
-
--- words that end with a name or root ask for no select
-no_select : {Q : Type 0} (words : List (List ℕ)) (x y label : List ℕ) → act_of words ≡ Some (Select x y label) → Q
-no_select [] x y label e = none_some _ e
-no_select (w ∷ []) x y label e = none_some _ e
-no_select (command ∷ z ∷ []) x y label e = no_choice (is_name z) (reading_named command z) _ (reading (bytes_eq command (codes "fetch")) (bytes_eq command (codes "print"))) e
-  where
-    reading : {Q : Type 0} (f p : Bool) → cond f (Some (Fetch z)) (cond p (Some (Print z)) None) ≡ Some (Select x y label) → Q
-    reading true p h = (let never = some_is (Fetch z) (Select x y label) h in cc)
-    reading false true h = (let never = some_is (Print z) (Select x y label) h in cc)
-    reading false false h = none_some _ h
-no_select (z ∷ is ∷ command ∷ []) x y label e =
-    no_choice (is_name z && bytes_eq is (codes "=") && bytes_eq command (codes "root")) (Some (Root z)) _ (λ h. let never = some_is (Root z) (Select x y label) h in cc) e
-no_select (z ∷ is ∷ command ∷ w ∷ []) x y label e =
-    no_choice (is_name z && bytes_eq is (codes "=") && is_name w) (act_named z command w) _ (moving (way_named command)) e
-  where
-    moving : {Q : Type 0} (way : Option Way) → option_map (λ way. Move way z w) way ≡ Some (Select x y label) → Q
-    moving None h = none_some _ h
-    moving (Some way) h = (let never = some_is (Move way z w) (Select x y label) h in cc)
-no_select (a ∷ b ∷ c ∷ d ∷ f ∷ words) x y label e = none_some _ e
+-- words before no label ask for no select
+no_select : {Q : Type 0} (forms : Forms) (words : List (List ℕ)) (x y label : List ℕ) → act_by forms words ≡ Some (Select x y label) → Q
+no_select Plain words x y label e = absurd (subst (Gives NoSelect) e (no_select_of words))
+no_select WithIds words x y label e = absurd (subst (Gives NoSelect) e (either_gives NoSelect (act_of words) (id_act_of words) (no_select_of words) (no_select_id words)))
 
 -- THE WORDS IN FRONT
 
@@ -116,9 +97,9 @@ seen_select line at x y label (got given j after) apart saw e = wordless (words_
         }
 
 -- a line that asks for a select is of its form
-asked_is_spelled : (line x y label : List ℕ) (place : Option ℕ) → place_of_word 4 line ≡ place → act_from line place ≡ Some (Select x y label) → IsSelectOf line x y label
-asked_is_spelled line x y label None p e = no_select (words_of line) x y label e
-asked_is_spelled line x y label (Some at) p e =
+asked_is_spelled : (forms : Forms) (line x y label : List ℕ) (place : Option ℕ) → place_of_word 4 line ≡ place → act_from forms line place ≡ Some (Select x y label) → IsSelectOf line x y label
+asked_is_spelled forms line x y label None p e = no_select forms (words_of line) x y label e
+asked_is_spelled forms line x y label (Some at) p e =
     seen_select line at x y label (seen_from start at (drop at line)) (place_apart line 4 at p) (saw (drop at line) start at) e
 
 -- THE SPELLING AND WHAT IS SEEN
@@ -184,10 +165,10 @@ seen_spelled (b ∷ w) s t i l y r e h = next (step s b) refl r (λ u k. seen_sp
 -- THE LAW
 
 -- a line of the form asks for the select
-spelled_is_asked : (line x y label : List ℕ) → IsSelectOf line x y label → act_in line ≡ Some (Select x y label)
-spelled_is_asked line x y label h = spelled h.spelled refl
+spelled_is_asked : (forms : Forms) (line x y label : List ℕ) → IsSelectOf line x y label → act_in forms line ≡ Some (Select x y label)
+spelled_is_asked forms line x y label h = spelled h.spelled refl
   where
-    spelled : (w : List ℕ) → h.spelled ≡ w → act_in line ≡ Some (Select x y label)
+    spelled : (w : List ℕ) → h.spelled ≡ w → act_in forms line ≡ Some (Select x y label)
     spelled [] none =
         let reads = spelled_reads [] label (subst (λ z. SpellsLabel z label) none h.spells) in
         let stands : start ≡ reads.0 = some_is start reads.0 reads.1 in
@@ -202,7 +183,7 @@ spelled_is_asked line x y label h = spelled h.spelled refl
         let seen : seen_from start (length h.prefix) (drop (length h.prefix) line) ≡ got label (length h.prefix + length (c ∷ w)) h.after =
         ap (seen_from start (length h.prefix)) rest
         ∙ seen_spelled (c ∷ w) start reads.0 (length h.prefix) label h.after reads.1 reads.2 (wordless_stops reads.0 label h.after reads.2 h.alone) in
-        ap (act_from line) place ∙ ap (λ z. option_and_then (select_of (words_of z)) (label_alone (seen_from start (length h.prefix) (drop (length h.prefix) line)))) before
+        ap (act_from forms line) place ∙ ap (λ z. option_and_then (select_of (words_of z)) (label_alone (seen_from start (length h.prefix) (drop (length h.prefix) line)))) before
         ∙ ap (λ z. option_and_then (select_of (words_of h.prefix)) (label_alone z)) seen
         ∙ ap (λ z. option_and_then (select_of (words_of h.prefix)) (cond (no_words z) (Some label) None)) h.alone
         ∙ ap (λ z. select_of z label) h.words ∙ words_select x y label h.names.0 h.names.1
@@ -215,4 +196,4 @@ spelled_is_asked line x y label h = spelled h.spelled refl
 
 -- a line asks for the select of a label exactly where it is of the form X = select Y LABEL
 pub selects_spelled : SelectsAreSpelled
-selects_spelled line x y label = (asked_is_spelled line x y label (place_of_word 4 line) refl, spelled_is_asked line x y label)
+selects_spelled forms line x y label = (asked_is_spelled forms line x y label (place_of_word 4 line) refl, spelled_is_asked forms line x y label)

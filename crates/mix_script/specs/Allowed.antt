@@ -3,10 +3,13 @@ use Rattle.std.specs.Prelude.{◌≡◌, ℕ, ◌+◌, ◌==◌, Bool, true, fal
 use Rattle.mix_script.specs.Names.{NamesOf}
 use Rattle.mix_script.specs.Answers.{line_of}
 use Rattle.mix_script.specs.Trails.{names_with}
+use Rattle.mix_script.specs.Transcript.{Note, nothing, failed, spelled}
 use Rattle.bracket_text.specs.Canonical.{canon}
+use Rattle.node_text.specs.Node.{NodeValue}
+use Rattle.node_text.specs.Grammar.{Spells}
 use Rattle.mix_tree.specs.Forest.{LabelledTree}
 use Rattle.mix_script.specs.declared.step.Act.{Act}
-use Rattle.mix_script.specs.declared.step.Act.TheVariants.{Root, Move, Select, Fetch, Print}
+use Rattle.mix_script.specs.declared.step.Act.TheVariants.{Root, Move, Select, Fetch, Print, Id, At}
 use Rattle.mix_script.specs.declared.step.Step.{Step}
 use Rattle.mix_script.specs.declared.answer.Answer.{Answer}
 use Rattle.mix_script.specs.declared.answer.Answer.TheVariants as answer
@@ -23,6 +26,8 @@ MayFind MayFail (answer.Label l) = ⊥
 MayFind MayFail (answer.Text x) = ⊥
 MayFind MayFail answer.NoNode = ⊥
 MayFind MayFail (answer.Fault s) = MayFail s
+MayFind MayFail (answer.Id x) = ⊥
+MayFind MayFail answer.Foreign = ⊥
 
 -- the answers to a command that goes to the root: where the root is sought in a source those of any search, and else a node
 abbrev pub MayFindRoot : Bool → (ℕ → Type 0) → Answer → Type 0
@@ -37,6 +42,8 @@ MayRead (answer.Label l) = Unit {0}
 MayRead (answer.Text x) = ⊥
 MayRead answer.NoNode = ⊥
 MayRead (answer.Fault s) = ⊥
+MayRead (answer.Id x) = ⊥
+MayRead answer.Foreign = ⊥
 
 -- the answers to a command that prints a subtree: the canonical text of a tree, or a fault of a source that has this property
 abbrev pub MayPrint : (ℕ → Type 0) → Answer → Type 0
@@ -46,6 +53,30 @@ MayPrint MayFail (answer.Label l) = ⊥
 MayPrint MayFail (answer.Text x) = (t : LabelledTree) × (x ≡ canon t)
 MayPrint MayFail answer.NoNode = ⊥
 MayPrint MayFail (answer.Fault s) = MayFail s
+MayPrint MayFail (answer.Id x) = ⊥
+MayPrint MayFail answer.Foreign = ⊥
+
+-- the answers to a command that writes an identifier down: a text of what an identifier says
+abbrev pub MaySpell : Answer → Type 0
+MaySpell answer.Node = ⊥
+MaySpell answer.None = ⊥
+MaySpell (answer.Label l) = ⊥
+MaySpell (answer.Text x) = ⊥
+MaySpell answer.NoNode = ⊥
+MaySpell (answer.Fault s) = ⊥
+MaySpell (answer.Id x) = (node : NodeValue) × Spells x node
+MaySpell answer.Foreign = ⊥
+
+-- the answers to a command that follows a text: a node, or that it names none, or a fault of a source that has this property
+abbrev pub MayFollow : (ℕ → Type 0) → Answer → Type 0
+MayFollow MayFail answer.Node = Unit {0}
+MayFollow MayFail answer.None = ⊥
+MayFollow MayFail (answer.Label l) = ⊥
+MayFollow MayFail (answer.Text x) = ⊥
+MayFollow MayFail answer.NoNode = ⊥
+MayFollow MayFail (answer.Fault s) = MayFail s
+MayFollow MayFail (answer.Id x) = ⊥
+MayFollow MayFail answer.Foreign = Unit {0}
 
 -- no node is answered exactly where the operand's name holds none
 abbrev pub WhereHeld : Option (Unit {0}) → (Answer → Type 0) → Answer → Type 0
@@ -59,6 +90,8 @@ MayAnswer roots MayFail nodes client (Move way name from) a = WhereHeld (nodes c
 MayAnswer roots MayFail nodes client (Select name from label) a = WhereHeld (nodes client from) (MayFind MayFail) a
 MayAnswer roots MayFail nodes client (Fetch from) a = WhereHeld (nodes client from) MayRead a
 MayAnswer roots MayFail nodes client (Print from) a = WhereHeld (nodes client from) (MayPrint MayFail) a
+MayAnswer roots MayFail nodes client (Id from) a = WhereHeld (nodes client from) MaySpell a
+MayAnswer roots MayFail nodes client (At name node) a = MayFollow MayFail a
 
 -- which names hold a node after an answer: the act's name after a node and not after none, and else those that did
 abbrev pub nodes_after : Nodes → List ℕ → Act → Answer → Nodes
@@ -85,11 +118,24 @@ mark_of (answer.Label l) = None
 mark_of (answer.Text x) = None
 mark_of answer.NoNode = None
 mark_of (answer.Fault s) = Some s
+mark_of (answer.Id x) = None
+mark_of answer.Foreign = None
 
--- the marks that answers show
-abbrev pub marks_of : List Answer → List (Option ℕ)
-marks_of [] = []
-marks_of (a ∷ answers) = mark_of a ∷ marks_of answers
+-- the note that an answer shows
+abbrev pub note_of : Answer → Note
+note_of answer.Node = nothing
+note_of answer.None = nothing
+note_of (answer.Label l) = nothing
+note_of (answer.Text x) = nothing
+note_of answer.NoNode = nothing
+note_of (answer.Fault s) = failed s
+note_of (answer.Id x) = spelled x
+note_of answer.Foreign = nothing
+
+-- the notes that answers show
+abbrev pub notes_of : List Answer → List Note
+notes_of [] = []
+notes_of (a ∷ answers) = note_of a ∷ notes_of answers
 
 -- whether an answer is a fault
 abbrev pub is_fault : Answer → Bool
@@ -117,3 +163,29 @@ begun cost after names [] [] = 0
 begun cost after names [] (step ∷ steps) = cost names step.client step.act
 begun cost after names (a ∷ answers) [] = 0
 begun cost after names (a ∷ answers) (step ∷ steps) = cost names step.client step.act + begun cost after (after names step.client step.act a) answers steps
+
+-- what the answer to an act adds to the walk charges of the nodes that texts named: that of its own node, where its text named one
+abbrev pub charge_of : (NodeValue → ℕ) → Act → Answer → ℕ
+charge_of charge (Root name) a = 0
+charge_of charge (Move way name from) a = 0
+charge_of charge (Select name from label) a = 0
+charge_of charge (Fetch from) a = 0
+charge_of charge (Print from) a = 0
+charge_of charge (Id from) a = 0
+charge_of charge (At name node) answer.Node = charge node
+charge_of charge (At name node) answer.None = 0
+charge_of charge (At name node) (answer.Label l) = 0
+charge_of charge (At name node) (answer.Text x) = 0
+charge_of charge (At name node) answer.NoNode = 0
+charge_of charge (At name node) (answer.Fault s) = 0
+charge_of charge (At name node) (answer.Id x) = 0
+charge_of charge (At name node) answer.Foreign = 0
+
+-- what nodes that texts named may cost, beside the tolls, by the answers to the first of these steps, where those named before have
+-- this sum of walk charges: each node its walk charge once, and once more for each fault behind it
+abbrev pub walks_owed : (NodeValue → ℕ) → ℕ → List Answer → List Step → ℕ
+walks_owed charge before [] steps = 0
+walks_owed charge before (a ∷ answers) [] = 0
+walks_owed charge before (a ∷ answers) (step ∷ steps) =
+    let own = charge_of charge step.act a in
+    (own + cond (is_fault a) before 0) + walks_owed charge (before + own) answers steps

@@ -12,6 +12,8 @@ IsNamed count (answer.Label l) = Unit {0}
 IsNamed count (answer.Text x) = Unit {0}
 IsNamed count answer.NoNode = Unit {0}
 IsNamed count (answer.Fault source) = source < count
+IsNamed count (answer.Id x) = Unit {0}
+IsNamed count answer.Foreign = Unit {0}
 
 -- the client's name and a colon, where the client has a name
 abbrev pub prefix_of : List ℕ → List ℕ
@@ -26,6 +28,8 @@ answer_text sources (answer.Label l) = codes "label " ++ spelling l
 answer_text sources (answer.Text x) = codes "text " ++ x
 answer_text sources answer.NoNode = codes "no node"
 answer_text sources (answer.Fault source) = codes "fault " ++ get_or sources source []
+answer_text sources (answer.Id x) = codes "id " ++ x
+answer_text sources answer.Foreign = codes "foreign"
 
 -- the line of a client's answer
 abbrev pub line_of : List (List ℕ) → List ℕ → Answer → List ℕ

@@ -9,5 +9,6 @@ pub mod Lines
 pub mod Names
 pub mod Selects
 pub mod Steps
+pub mod Texts
 pub mod Trails
 pub mod Transcript

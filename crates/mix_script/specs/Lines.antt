@@ -4,8 +4,9 @@ use Rattle.std.specs.Str.{is_utf8}
 use Rattle.mix_tree.specs.LabelMachine.{Seen, got, unexpected, ends, start, seen_from}
 use Rattle.mix_words.specs.Words.{is_name, words_of}
 use Rattle.mix_words.specs.Places.{place_of_word}
-use Rattle.mix_script.specs.Forms.{act_of, select_of}
+use Rattle.mix_script.specs.Forms.{act_by, select_of}
 use Rattle.mix_script.specs.declared.step.Act.{Act}
+use Rattle.mix_script.specs.declared.step.Forms.{Forms}
 use Rattle.mix_script.specs.declared.step.Step.{Step}
 
 -- whether there are no words
@@ -24,13 +25,13 @@ abbrev pub select_at : List ℕ → ℕ → Option Act
 select_at line at = option_and_then (select_of (words_of (take at line))) (label_alone (seen_from start at (drop at line)))
 
 -- what a line without a prefix asks for: a fifth word begins a label, and of fewer words each is read
-abbrev pub act_from : List ℕ → Option ℕ → Option Act
-act_from line None = act_of (words_of line)
-act_from line (Some at) = select_at line at
+abbrev pub act_from : Forms → List ℕ → Option ℕ → Option Act
+act_from forms line None = act_by forms (words_of line)
+act_from forms line (Some at) = select_at line at
 
--- what a line without a prefix asks for
-abbrev pub act_in : List ℕ → Option Act
-act_in line = act_from line (place_of_word 4 line)
+-- what a line without a prefix asks for, by the forms that it may have
+abbrev pub act_in : Forms → List ℕ → Option Act
+act_in forms line = act_from forms line (place_of_word 4 line)
 
 -- what stands before a colon, where it is the last byte
 abbrev pub before_colon : List ℕ → Option (List ℕ)
@@ -57,19 +58,19 @@ abbrev pub step_with : List ℕ → Act → Step
 step_with client act = record { client = client; act = act }
 
 -- the step of a line, whose second word begins at a place: after a client's prefix, or without one
-abbrev pub step_after : List ℕ → ℕ → Option (List ℕ) → Option Step
-step_after line at None = option_map (step_with []) (act_in line)
-step_after line at (Some client) = option_map (step_with client) (act_in (drop at line))
+abbrev pub step_after : Forms → List ℕ → ℕ → Option (List ℕ) → Option Step
+step_after forms line at None = option_map (step_with []) (act_in forms line)
+step_after forms line at (Some client) = option_map (step_with client) (act_in forms (drop at line))
 
 -- the step of a line, by the place at which its second word begins
-abbrev pub step_from : List ℕ → Option ℕ → Option Step
-step_from line None = option_map (step_with []) (act_in line)
-step_from line (Some at) = step_after line at (client_of (words_of (take at line)))
+abbrev pub step_from : Forms → List ℕ → Option ℕ → Option Step
+step_from forms line None = option_map (step_with []) (act_in forms line)
+step_from forms line (Some at) = step_after forms line at (client_of (words_of (take at line)))
 
 -- the step of a line that is UTF-8
-abbrev pub step_in : List ℕ → Option Step
-step_in line = step_from line (place_of_word 1 line)
+abbrev pub step_in : Forms → List ℕ → Option Step
+step_in forms line = step_from forms line (place_of_word 1 line)
 
 -- the step of a line; None where it is not UTF-8 or fits no form
-abbrev pub utf8_step : List ℕ → Option Step
-utf8_step line = cond (is_utf8 line) (step_in line) None
+abbrev pub utf8_step : Forms → List ℕ → Option Step
+utf8_step forms line = cond (is_utf8 line) (step_in forms line) None

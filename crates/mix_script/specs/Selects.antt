@@ -1,9 +1,10 @@
 -- What a line looks like that asks for a `select`.
-use Rattle.std.specs.Prelude.{◌≡◌, ℕ, true, List, [], ◌∷◌, ◌++◌, Some, IsTrue, codes}
+use Rattle.std.specs.Prelude.{◌≡◌, ◌↔◌, ℕ, true, List, [], ◌∷◌, ◌++◌, Some, IsTrue, codes}
 use Rattle.mix_tree.specs.LabelGrammar.{SpellsLabel}
 use Rattle.mix_words.specs.Words.{is_name, words_of}
 use Rattle.mix_words.specs.Places.{ends_blank}
 use Rattle.mix_script.specs.Lines.{act_in}
+use Rattle.mix_script.specs.declared.step.Forms.{Forms}
 use Rattle.mix_script.specs.declared.step.Act.TheVariants.{Select}
 
 -- the line is X = select Y LABEL: these words with a blank after them, then a spelling of the label, then no word
@@ -20,5 +21,4 @@ pub record IsSelectOf (line x y label : List ℕ) : Type 0 where
 
 -- a line without a prefix asks for the select of a label exactly where it is of this form
 abbrev pub SelectsAreSpelled : Type 0
-SelectsAreSpelled = (line x y label : List ℕ)
-    → (act_in line ≡ Some (Select x y label) → IsSelectOf line x y label) × (IsSelectOf line x y label → act_in line ≡ Some (Select x y label))
+SelectsAreSpelled = (forms : Forms) (line x y label : List ℕ) → (act_in forms line ≡ Some (Select x y label)) ↔ IsSelectOf line x y label

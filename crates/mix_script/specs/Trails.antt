@@ -3,7 +3,7 @@ use Rattle.std.specs.Prelude.{ℕ, Bool, true, false, IsTrue, List, [], ◌∷�
 use Rattle.mix_tree.specs.Place.{child_place, next_place}
 use Rattle.mix_script.specs.Names.{NamesOf, with_name}
 use Rattle.mix_script.specs.declared.step.Act.{Act}
-use Rattle.mix_script.specs.declared.step.Act.TheVariants.{Root, Move, Select, Fetch, Print}
+use Rattle.mix_script.specs.declared.step.Act.TheVariants.{Root, Move, Select, Fetch, Print, Id, At}
 use Rattle.mix_script.specs.declared.step.Step.{Step}
 use Rattle.mix_script.specs.declared.step.Way.{Way}
 use Rattle.mix_script.specs.declared.step.Way.TheVariants.{Down, Right}
@@ -28,13 +28,15 @@ place_to Right place = next_place place
 abbrev pub place_trail : Trail (List ℕ)
 place_trail = record { first = []; to = place_to }
 
--- whether an act takes at most one way from a node: it searches no siblings and prints no subtree
+-- whether an act takes at most one way from a node: it searches no siblings, prints no subtree and follows no text
 abbrev pub takes_one_way : Act → Bool
 takes_one_way (Root name) = true
 takes_one_way (Move way name from) = true
 takes_one_way (Select name from label) = false
 takes_one_way (Fetch from) = true
 takes_one_way (Print from) = false
+takes_one_way (Id from) = true
+takes_one_way (At name node) = false
 
 -- each step takes at most one way
 abbrev pub TakeOneWay : List Step → Type 0
@@ -48,6 +50,8 @@ with_named names client (Move way name from) value = with_name names client name
 with_named names client (Select name from label) value = with_name names client name value
 with_named names client (Fetch from) value = names
 with_named names client (Print from) value = names
+with_named names client (Id from) value = names
+with_named names client (At name node) value = with_name names client name value
 
 -- the names after an answer, where this is told of the node that was sought: the act's name holds that or none, or all hold
 -- what they held
@@ -58,6 +62,8 @@ names_with goal names client act (answer.Label l) = names
 names_with goal names client act (answer.Text x) = names
 names_with goal names client act answer.NoNode = names
 names_with goal names client act (answer.Fault source) = names
+names_with goal names client act (answer.Id x) = names
+names_with goal names client act answer.Foreign = names
 
 -- what is told of the node that an act of at most one way asks for: the root, or the one to which a way leads from what its
 -- operand holds
@@ -67,6 +73,8 @@ goal_on trail names client (Move way name from) = option_and_then (trail.to way)
 goal_on trail names client (Select name from label) = None
 goal_on trail names client (Fetch from) = None
 goal_on trail names client (Print from) = None
+goal_on trail names client (Id from) = None
+goal_on trail names client (At name node) = None
 
 -- the names after an answer to an act of at most one way
 abbrev pub names_on : {W : Type 0} → Trail W → NamesOf W → List ℕ → Act → Answer → NamesOf W

@@ -38,7 +38,7 @@ impl Text {
 }
 
 /// The answer to a command: a node was found, or none; a node's label; the canonical bracket text of a subtree; the name
-/// holds no node; or the source of this number failed.
+/// holds no node; the source of this number failed; the text of an identifier; or a text names no node.
 #[derive(Drop)]
 pub enum Answer {
     Node,
@@ -47,6 +47,8 @@ pub enum Answer {
     Text(Text),
     NoNode,
     Fault(u32),
+    Id(Text),
+    Foreign,
 }
 
 // Writes the client's name and `: ` where the client has a name.
@@ -82,6 +84,11 @@ fn push_answer(line: &mut Vec<u8>, answer: &Answer, sources: &[Label]) -> Result
             line.extend_from_slice(b"fault ")?;
             line.extend_from_slice(sources[*source as usize].bytes())
         }
+        Answer::Id(text) => {
+            line.extend_from_slice(b"id ")?;
+            line.extend_from_slice(text.bytes())
+        }
+        Answer::Foreign => line.extend_from_slice(b"foreign"),
     }
 }
 
@@ -90,7 +97,8 @@ fn text_room(answer: &Answer) -> usize {
     match answer {
         Answer::Label(label) => label.bytes().len().saturating_add(8),
         Answer::Text(text) => text.bytes().len().saturating_add(5),
-        Answer::Node | Answer::None | Answer::NoNode | Answer::Fault(_) => 16,
+        Answer::Id(text) => text.bytes().len().saturating_add(3),
+        Answer::Node | Answer::None | Answer::NoNode | Answer::Fault(_) | Answer::Foreign => 16,
     }
 }
 
@@ -113,7 +121,12 @@ pub fn usual_line(client: &Label, answer: &Answer) -> Option<&'static [u8]>
     match answer {
         Answer::Node => Some(b"node\n"),
         Answer::None => Some(b"none\n"),
-        Answer::Label(_) | Answer::Text(_) | Answer::NoNode | Answer::Fault(_) => None,
+        Answer::Label(_)
+        | Answer::Text(_)
+        | Answer::NoNode
+        | Answer::Fault(_)
+        | Answer::Id(_)
+        | Answer::Foreign => None,
     }
 }
 

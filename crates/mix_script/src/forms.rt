@@ -3,12 +3,14 @@ ghost use Rattle.std.specs.Prelude.{◌≡◌, ◌&&◌, ℕ, List, IfOk, IsTrue
 ghost use Rattle.std.specs.Str.{bytes_eq};
 ghost use Rattle.mix_words.specs.Words.{is_name, words_of};
 ghost use Rattle.mix_script.specs.LineWords.{AreWords};
-ghost use Rattle.mix_script.specs.Forms.{act_of, read_form, reading_named, root_form, move_form, way_named, act_named, is_select_form, select_of};
+ghost use Rattle.mix_script.specs.Forms.{act_by, act_named, act_of, at_form, id_act_of, id_form, is_select_form, move_form, read_form, reading_named, root_form, select_of, way_named};
+ghost use Rattle.node_text.specs.Machine.{read_of};
 
 use crate::words::{LineWords, line_words};
-use crate::{Act, Way};
+use crate::{Act, Forms, Way};
 use mix_tree::Label;
 use mix_words::words::is_script_name;
+use node_text::{NodeData, NodeFault, read_node};
 use std::alloc::{AllocError, Global};
 
 // The label of a name.
@@ -115,8 +117,8 @@ fn read_of(alloc: Global, command: &[u8], from: &[u8]) -> Result<Option<Act>, Al
     Ok(None)
 }
 
-/// What the words of a line ask for; `None` where they are of no form that ends with a name or `root`.
-pub fn read_act(alloc: Global, words: LineWords) -> Result<Option<Act>, AllocError>
+// What the words of a line ask for that end with a name or `root`.
+fn read_plain(alloc: Global, words: LineWords) -> Result<Option<Act>, AllocError>
     ensures { (ws : List (List ℕ)) → AreWords ws words.entry → IfOk result (λ act. act ≡ act_of ws) }
 {
     match words {
@@ -124,6 +126,74 @@ pub fn read_act(alloc: Global, words: LineWords) -> Result<Option<Act>, AllocErr
         LineWords::Three(name, is, command) => read_root(alloc, name, is, command),
         LineWords::Four(name, is, command, from) => read_move(alloc, name, is, command, from),
         LineWords::Other => Ok(None),
+    }
+}
+
+// What a text says, where it is that of an identifier.
+fn read_text(alloc: Global, text: &[u8]) -> Result<Option<NodeData>, AllocError>
+    ensures { IfOk result (λ node. node ≡ read_of text.now) }
+{
+    match read_node(alloc, text) {
+        Ok(node) => Ok(Some(node)),
+        Err(NodeFault::Unexpected(_)) => Ok(None),
+        Err(NodeFault::Ends) => Ok(None),
+        Err(NodeFault::OutOfMemory) => Err(AllocError),
+    }
+}
+
+// The act of the words `X = at TEXT`.
+fn read_at(
+    alloc: Global,
+    name: &[u8],
+    is: &[u8],
+    command: &[u8],
+    text: &[u8],
+) -> Result<Option<Act>, AllocError>
+    ensures { IfOk result (λ act. act ≡ at_form name.now is.now command.now text.now) }
+{
+    if !is_assigned(name, is) || command != b"at".as_slice() {
+        return Ok(None);
+    }
+    let Some(node) = read_text(alloc, text)? else {
+        return Ok(None);
+    };
+    let name = name_label(alloc, name)?;
+    Ok(Some(Act::At { name, node }))
+}
+
+// The act of the words `id Y`.
+fn read_id(alloc: Global, command: &[u8], from: &[u8]) -> Result<Option<Act>, AllocError>
+    ensures { IfOk result (λ act. act ≡ id_form command.now from.now) }
+{
+    if command == b"id".as_slice() && is_script_name(from) {
+        let from = name_label(alloc, from)?;
+        return Ok(Some(Act::Id { from }));
+    }
+    Ok(None)
+}
+
+// What the words of a line ask for that are of a form of identifiers.
+fn read_id_act(alloc: Global, words: LineWords) -> Result<Option<Act>, AllocError>
+    ensures { (ws : List (List ℕ)) → AreWords ws words.entry → IfOk result (λ act. act ≡ id_act_of ws) }
+{
+    match words {
+        LineWords::Two(command, from) => read_id(alloc, command, from),
+        LineWords::Four(name, is, command, text) => read_at(alloc, name, is, command, text),
+        LineWords::Three(_, _, _) | LineWords::Other => Ok(None),
+    }
+}
+
+/// What the words of a line ask for, of no more words than four; `None` where they are of no form that lines may have.
+pub fn read_act(alloc: Global, words: LineWords, forms: Forms) -> Result<Option<Act>, AllocError>
+    ensures { (ws : List (List ℕ)) → AreWords ws words.entry → IfOk result (λ act. act ≡ act_by forms ws) }
+{
+    let act = read_plain(alloc, words)?;
+    match forms {
+        Forms::Plain => Ok(act),
+        Forms::WithIds => match act {
+            Some(act) => Ok(Some(act)),
+            None => read_id_act(alloc, words),
+        },
     }
 }
 

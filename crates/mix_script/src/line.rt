@@ -7,7 +7,7 @@ ghost use Rattle.mix_script.specs.Lines.{before_colon, client_named, client_of, 
 
 use crate::forms::{read_act, read_select};
 use crate::words::{LineWords, first_word, is_wordless, line_words};
-use crate::{Act, Step};
+use crate::{Act, Forms, Step};
 use bracket_text::is_utf8_text;
 use mix_tree::{Label, LabelRead, read_label};
 use mix_words::places::word_place;
@@ -68,12 +68,17 @@ fn read_select_at(alloc: Global, line: &[u8], at: usize) -> Result<Option<Act>, 
 }
 
 // What a line without a prefix asks for, which has these words.
-fn read_act_in(alloc: Global, line: &[u8], words: LineWords) -> Result<Option<Act>, AllocError>
+fn read_act_in(
+    alloc: Global,
+    line: &[u8],
+    words: LineWords,
+    forms: Forms,
+) -> Result<Option<Act>, AllocError>
     requires utf8 { IsUtf8 line.now }
     requires words { AreWords (words_of line.now) words }
-    ensures { IfOk result (λ act. act ≡ act_in line.now) }
+    ensures { IfOk result (λ act. act ≡ act_in forms line.now) }
 {
-    if let Some(act) = read_act(alloc, words)? {
+    if let Some(act) = read_act(alloc, words, forms)? {
         return Ok(Some(act));
     }
     match word_place(line, BEFORE_LABEL) {
@@ -88,13 +93,14 @@ fn read_step(
     client: &[u8],
     line: &[u8],
     words: LineWords,
+    forms: Forms,
 ) -> Result<Option<Step>, AllocError>
     requires client { IsUtf8 client.now }
     requires line { IsUtf8 line.now }
     requires words { AreWords (words_of line.now) words }
-    ensures { IfOk result (λ step. step ≡ option_map (step_with client.now) (act_in line.now)) }
+    ensures { IfOk result (λ step. step ≡ option_map (step_with client.now) (act_in forms line.now)) }
 {
-    let Some(act) = read_act_in(alloc, line, words)? else {
+    let Some(act) = read_act_in(alloc, line, words, forms)? else {
         return Ok(None);
     };
     let client = Label::of_text(alloc, client)?;
@@ -102,18 +108,23 @@ fn read_step(
 }
 
 // The step of a line, after a client's prefix or without one.
-fn read_prefixed(alloc: Global, line: &[u8], words: LineWords) -> Result<Option<Step>, AllocError>
+fn read_prefixed(
+    alloc: Global,
+    line: &[u8],
+    words: LineWords,
+    forms: Forms,
+) -> Result<Option<Step>, AllocError>
     requires utf8 { IsUtf8 line.now }
     requires words { AreWords (words_of line.now) words }
-    ensures { IfOk result (λ step. step ≡ step_in line.now) }
+    ensures { IfOk result (λ step. step ≡ step_in forms line.now) }
 {
     if let Some(at) = word_place(line, 1) {
         if let Some(client) = read_client(&line[..at]) {
             let line = &line[at..];
-            return read_step(alloc, client, line, line_words(line));
+            return read_step(alloc, client, line, line_words(line), forms);
         }
     }
-    read_step(alloc, b"", line, words)
+    read_step(alloc, b"", line, words, forms)
 }
 
 // Whether the first word may be a client's prefix.
@@ -129,23 +140,23 @@ fn may_be_prefixed(words: LineWords) -> bool
 }
 
 // The step of a line that is UTF-8.
-fn read_utf8(alloc: Global, line: &[u8]) -> Result<Option<Step>, AllocError>
+fn read_utf8(alloc: Global, line: &[u8], forms: Forms) -> Result<Option<Step>, AllocError>
     requires { IsUtf8 line.now }
-    ensures { IfOk result (λ step. step ≡ step_in line.now) }
+    ensures { IfOk result (λ step. step ≡ step_in forms line.now) }
 {
     let words = line_words(line);
     if may_be_prefixed(words) {
-        return read_prefixed(alloc, line, words);
+        return read_prefixed(alloc, line, words, forms);
     }
-    read_step(alloc, b"", line, words)
+    read_step(alloc, b"", line, words, forms)
 }
 
-/// The step of a line that is not passed over; `None` where it is not UTF-8 or fits no form (docs/FORMATS.md, "Scripts").
-pub fn line_step(alloc: Global, line: &[u8]) -> Result<Option<Step>, AllocError>
-    ensures { IfOk result (λ step. step ≡ utf8_step line.now) }
+/// The step of a line that is not passed over; `None` where it is not UTF-8 or fits no form that lines may have (docs/FORMATS.md, "Scripts").
+pub fn line_step(alloc: Global, line: &[u8], forms: Forms) -> Result<Option<Step>, AllocError>
+    ensures { IfOk result (λ step. step ≡ utf8_step forms line.now) }
 {
     if !is_utf8_text(line) {
         return Ok(None);
     }
-    read_utf8(alloc, line)
+    read_utf8(alloc, line, forms)
 }

@@ -1,5 +1,6 @@
 // What a line of a script asks for.
 use mix_tree::Label;
+use node_text::NodeData;
 
 /// One command of a client. The client of a line without a prefix has the empty name.
 #[derive(Drop)]
@@ -13,6 +14,13 @@ pub struct Step {
 pub enum Way {
     Down,
     Right,
+}
+
+/// The forms that the lines of a script may have: those of a walk, and with them those that write an identifier down and follow one.
+#[derive(Clone, Copy)]
+pub enum Forms {
+    Plain,
+    WithIds,
 }
 
 /// A command: `name` is the name that the node found is given, `from` the name of the node to begin at.
@@ -38,6 +46,15 @@ pub enum Act {
     /// The text of a subtree.
     Print {
         from: Label,
+    },
+    /// The text of a node's identifier.
+    Id {
+        from: Label,
+    },
+    /// The node that the text of an identifier names, by what it says.
+    At {
+        name: Label,
+        node: NodeData,
     },
 }
 

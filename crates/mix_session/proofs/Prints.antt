@@ -15,7 +15,7 @@ use Rattle.mix_script.specs.declared.step.Way.{Way}
 use Rattle.mix_script.specs.declared.step.Way.TheVariants.{Down, Right}
 use Rattle.mix_session.specs.Meaning.{Meaning, Stays}
 use Rattle.mix_session.specs.Seeking.{IsSmaller, ReadsLabel}
-use Rattle.mix_session.specs.Printing.{place_toll, CostsOn, IsThere, IsStepTo, OpensTree, PrintsBelow, PrintsTree, PrintsTrees, closing, opening}
+use Rattle.mix_session.specs.Printing.{place_toll, CostsOn, IsPaidFor, IsThere, IsStepTo, OpensTree, PrintsBelow, PrintsTree, PrintsTrees, closing, opening}
 use Rattle.mix_session.specs.Tolls.{toll_from, one_toll, trees_toll, print_toll, siblings_toll}
 use Rattle.mix_session.proofs.Walking.{stays_twice, place_toll_less, trees_at-next}
 
@@ -180,14 +180,19 @@ module _ {V W : Type 0} (m : Meaning V W) (n : V) where
     opened_below before mid after (Ok x) o below = opened_node before mid after o below
     opened_below before mid after (Err e) o below = tt
 
+    -- nothing is owed for the first child
+    child_owes : (p : List ℕ) → m'.owes first p ≡ 0
+    child_owes p = m'.walked_owes first p step.node.1
+
     -- the way down and the trees below cost together no more than the node's text
     pub node_costs : (fills fills' fills'' : ℕ) → CostsOn m n fills fills' (λ toll t p. toll Down p) → CostsOn m' first fills' fills'' siblings_toll → CostsOn m n fills fills'' print_toll
     node_costs fills fills' fills'' down cost tolls p at t one =
         let own = down tolls p at t one in
         let rest = cost (stays.course.tolls tolls) (child_place p) (child_at p at t one) t (stays.course.document t one) in
+        let free = child_owes (child_place p) in
         let less = trees_less (place_toll m.course) (place_toll m'.course) (place_toll_less m.course m'.course stays.course) (trees_at (alone t) (child_place p)) (child_place p) in
         let same = ap (λ f. trees_toll (place_toll m.course) f (child_place p)) (trees_at-child (alone t) p) in
-        omega (arith, own, rest, less, same)
+        omega (arith, own, rest, free, less, same)
 
 -- a label that was read is that of a node of the document
 pub read_there : {V W : Type 0} (m : Meaning V W) (n : V) (label : List ℕ) → ReadsLabel m n label → IsThere m n
@@ -200,20 +205,22 @@ pub record IsOnWay {V W : Type 0} (m m' : Meaning V W) (fills fills' : ℕ) (pre
   pub trees : trees_at (alone t) p ≡ followed prefix (trees_at (alone t) here)
   pub cost : m.course.HasTolls → fills' + siblings_toll (place_toll m.course) t here ≤ fills + siblings_toll (place_toll m.course) t p
 
--- wherever the first node stands, the trees from it on were printed up to another node, with a comma after each
+-- wherever the first node stands, the trees from it on were printed up to another node to which a walk led, with a comma after each
 pub record ArePrinted {V W : Type 0} (m m' : Meaning V W) (fills fills' : ℕ) (before now : List ℕ) (first node : V) : Type 0 where
   pub stays : Stays m m'
   pub is_node : m'.IsNode node
+  pub walked : m'.IsWalked node
   pub low : m'.height node ≤ m.height first
   pub prefix : Forest
   pub text : (label : List ℕ) (kids rest : Forest) → now ++ canon_trees (tree label kids rest) ≡ before ++ canon_trees (followed prefix (tree label kids rest))
   pub place : (p : List ℕ) → m.IsAt first p → (t : LabelledTree) → m.course.IsDocument t → IsOnWay m m' fills fills' prefix node p t
 
 -- before any tree was printed, the trees from a node on are printed up to the node itself
-pub printed_start : {V W : Type 0} (m : Meaning V W) (first : V) (fills : ℕ) (before : List ℕ) → Stays m m → m.IsNode first → ArePrinted m m fills fills before before first first
-printed_start m first fills before stays node = record {
+pub printed_start : {V W : Type 0} (m : Meaning V W) (first : V) (fills : ℕ) (before : List ℕ) → Stays m m → m.IsNode first → m.IsWalked first → ArePrinted m m fills fills before before first first
+printed_start m first fills before stays node walked = record {
   stays = stays;
   is_node = node;
+  walked = walked;
   low = omega arith;
   prefix = none;
   text = λ label kids rest. refl;
@@ -231,24 +238,31 @@ step_later {V} m m' m'' way n r stays node step = record {
   node = step.node;
   place = λ p at t one. step.place p (stays.place n p at) t (stays.course.document t one);
   smaller = of way r step.smaller;
+  paid = λ tolls p at. step.paid (stays.course.tolls tolls) p (stays.place n p at);
 }
   where
     of : (way : Way) (r : Option V) → IfSome r (IsSmaller m' m'' way n) → IfSome r (IsSmaller m m'' way n)
     of way None h = tt
     of Down (Some c) h = let a = stays.height n node in omega (arith, a, h)
-    of Right (Some c) h = let a = stays.height n node in let b = stays.left n node in (let x = h.0 in omega (arith, b, x), let y = h.1 in omega (arith, a, y))
+    of Right (Some c) h =
+        let a = stays.height n node in
+        let b = stays.left n node in
+        let y = h.1 in
+        (λ walked. let x = h.0 (stays.walked n walked) in omega (arith, b, x), omega (arith, a, y))
 
 -- the text of a tree costs no more than the tree with the way after it
 pub tree_costs : {V W : Type 0} (m : Meaning V W) (n : V) (fills fills' : ℕ) → CostsOn m n fills fills' print_toll → CostsOn m n fills fills' one_toll
 tree_costs m n fills fills' own tolls p at t one = let a = own tolls p at t one in omega (arith, a)
 
--- a tree and the way to the right of it cost together no more than both tolls
-pub one_costs : {V W : Type 0} (m m' : Meaning V W) (n : V) (fills fills' fills'' : ℕ) → Stays m m' → CostsOn m n fills fills' print_toll → CostsOn m' n fills' fills'' (λ toll t p. toll Right p) → CostsOn m n fills fills'' one_toll
-one_costs m m' n fills fills' fills'' stays own right tolls p at t one =
+-- a tree, after which nothing is owed for its node, and the way to the right of it cost together no more than both tolls
+pub one_costs : {V W : Type 0} (m m' : Meaning V W) (n : V) (fills fills' fills'' : ℕ) → Stays m m' → IsPaidFor m m' n → CostsOn m n fills fills' print_toll
+    → CostsOn m' n fills' fills'' (λ toll t p. toll Right p) → CostsOn m n fills fills'' one_toll
+one_costs m m' n fills fills' fills'' stays paid own right tolls p at t one =
     let a = own tolls p at t one in
+    let free = paid tolls p at in
     let b = right (stays.course.tolls tolls) p (stays.place n p at) t (stays.course.document t one) in
     let less = place_toll_less m.course m'.course stays.course Right p in
-    omega (arith, a, b, less)
+    omega (arith, a, free, b, less)
 
 module _ {V W : Type 0} (m m' m3 : Meaning V W) (first node : V) (fills fills' fills3 : ℕ) (before now : List ℕ) (so : ArePrinted m m' fills fills' before now first node) (stays : Stays m' m3) (there : IsThere m' node)
     (cost : CostsOn m' node fills' fills3 one_toll) where
@@ -261,12 +275,13 @@ module _ {V W : Type 0} (m m' m3 : Meaning V W) (first node : V) (fills fills' f
         → fills3 + toll_from (trees_toll (place_toll m.course) (after_first (trees_at (alone t) on.here))) (next_place on.here) ≤ fills + siblings_toll (place_toll m.course) t p
     paid tolls =
         let own = cost (so.stays.course.tolls tolls) on.here on.at t (so.stays.course.document t one) in
+        let free = m'.walked_owes node on.here so.walked in
         let so_far = on.cost tolls in
         let all = siblings_are (place_toll m.course) t on.here (there on.here on.at t (so.stays.course.document t one)) in
         let down = place_toll_less m.course m'.course so.stays.course Down on.here in
         let right = place_toll_less m.course m'.course so.stays.course Right on.here in
         let below = trees_less (place_toll m.course) (place_toll m'.course) (place_toll_less m.course m'.course so.stays.course) (first_kids (trees_at (alone t) on.here)) (child_place on.here) in
-        omega (arith, own, so_far, all, down, right, below)
+        omega (arith, own, free, so_far, all, down, right, below)
 
   -- the trees up to the one that was printed cost no more than all of them
   pub printed_costs : CostsOn m first fills fills3 siblings_toll
@@ -299,7 +314,8 @@ module _ {V W : Type 0} (m m' m3 : Meaning V W) (first node : V) (fills fills' f
     printed_more next step now'' comma =
         record {
           stays = stays_twice so.stays stays;
-          is_node = step.node;
+          is_node = step.node.0;
+          walked = step.node.1;
           low = let a = so.low in let c = step.smaller.1 in omega (arith, a, c);
           prefix = followed so.prefix (tree tree'.subtree.label tree'.subtree.kids none);
           text = λ label kids rest.

@@ -11,11 +11,11 @@ use Rattle.mix_script.specs.declared.step.Way.TheVariants.{Right}
 use Rattle.mix_session.specs.declared.walker.Found.{Found}
 use Rattle.mix_session.specs.declared.walker.Found.TheVariants as found
 use Rattle.mix_session.specs.Meaning.{Meaning, Stays}
-use Rattle.mix_session.specs.Seeking.{IfNode, IsAsked, IsMoved, IsNext, IsSelected, ReadsLabel}
+use Rattle.mix_session.specs.Seeking.{IfNode, UnlessFault, IsReached, IsAsked, IsMoved, IsNext, IsSelected, ReadsLabel}
 use Rattle.mix_session.specs.Searches.{labelled_from, labelled_at, ahead_from, ahead_at, IsFirst}
-use Rattle.mix_session.specs.Printing.{place_toll, CostsOn}
+use Rattle.mix_session.specs.Printing.{place_toll, CostsOn, IsPaidFor}
 use Rattle.mix_session.specs.Tolls.{toll_from, search_toll, select_toll}
-use Rattle.mix_session.proofs.Walking.{stays_twice, place_toll_less, cause_before, trees_at-next}
+use Rattle.mix_session.proofs.Walking.{stays_twice, place_toll_less, cause_before, still_paid, trees_at-next, unless_fault}
 
 -- the place of the first with a label of the node at an optional place and its later siblings
 abbrev pub labelled_on : LabelledTree → List ℕ → Option (List ℕ) → Option (List ℕ)
@@ -67,6 +67,10 @@ toll_on toll t label p = by_next (next_place p) refl
     by_next None e = nowhere (after_first (trees_at (alone t) p)) e
     by_next (Some q) e = there (after_first (trees_at (alone t) p)) q e ∙ ap (λ f. toll Right p + ahead_from toll label f q) (sym (trees_at-next (alone t) p q e))
 
+-- where calls have tolls, a step to the right asked at most as many fills as are owed for its node and the toll of its place says
+abbrev pub AsksRight : {V W : Type 0} → Meaning V W → V → ℕ → ℕ → Type 0
+AsksRight m n fills fills' = m.course.HasTolls → (p : List ℕ) → m.IsAt n p → fills' ≤ fills + (m.owes n p + place_toll m.course Right p)
+
 -- a search from a node at a place has come to another node
 pub record IsOnWay {V W : Type 0} (m m' : Meaning V W) (fills fills' : ℕ) (label : List ℕ) (first node : V) (p : List ℕ) (t : LabelledTree) : Type 0 where
   pub here : List ℕ
@@ -74,10 +78,11 @@ pub record IsOnWay {V W : Type 0} (m m' : Meaning V W) (fills fills' : ℕ) (lab
   pub same : labelled_at t label p ≡ labelled_at t label here
   pub cost : m.course.HasTolls → fills' + ahead_at (place_toll m.course) t label here ≤ fills + ahead_at (place_toll m.course) t label p
 
--- wherever it began, a search from a node has come to another node
+-- wherever it began, a search from a node has come to another node to which a walk led
 pub record IsSought {V W : Type 0} (m m' : Meaning V W) (fills fills' : ℕ) (label : List ℕ) (first node : V) : Type 0 where
   pub stays : Stays m m'
   pub is_node : m'.IsNode node
+  pub walked : m'.IsWalked node
   pub place : (p : List ℕ) → m.IsAt first p → (t : LabelledTree) → m.course.IsDocument t → IsOnWay m m' fills fills' label first node p t
 
 -- the first tree of a forest has a label or has another, as told
@@ -156,10 +161,11 @@ node_there t u q e = of (trees_at (alone t) q) refl e
 
 module _ {V W : Type 0} (m : Meaning V W) (label : List ℕ) (first : V) where
   -- a search from a node has come to that node before any step
-  pub sought_start : (fills : ℕ) → Stays m m → m.IsNode first → IsSought m m fills fills label first first
-  sought_start fills stays node = record {
+  pub sought_start : (fills : ℕ) → Stays m m → m.IsNode first → m.IsWalked first → IsSought m m fills fills label first first
+  sought_start fills stays node walked = record {
     stays = stays;
     is_node = node;
+    walked = walked;
     place = λ p at t one. record { here = p; at = at; same = refl; cost = λ tolls. omega arith };
   }
 
@@ -172,7 +178,7 @@ module _ {V W : Type 0} (m : Meaning V W) (label : List ℕ) (first : V) where
     pub sought_found : (before after : ℕ → ℕ) → bytes_eq read label ≡ true → IsFirst m m' before after label first (found.Node node)
     sought_found before after same = record {
       cause = tt;
-      node = so.is_node;
+      node = (so.is_node, so.walked);
       place = λ p at t one.
           let on = so.place p at t one in
           let there = reads on.here on.at t (so.stays.course.document t one) in
@@ -181,7 +187,7 @@ module _ {V W : Type 0} (m : Meaning V W) (label : List ℕ) (first : V) where
           subst (λ g. IsMoved m'.IsAt t g (found.Node node)) (sym is) (node_there t there.0 on.here there.1, (on.here, refl, on.at));
     }
 
-    module _ (m'' : Meaning V W) (fills'' : ℕ) (other : bytes_eq read label ≡ false) (stays : Stays m' m'') (toll : (x : W) → m'.IsTold node x → m'.course.HasTolls → fills'' ≤ fills' + m'.course.toll Right x) where
+    module _ (m'' : Meaning V W) (fills'' : ℕ) (other : bytes_eq read label ≡ false) (stays : Stays m' m'') (asks : AsksRight m' node fills' fills'') where
       -- a search has come to a node with another label, and the way to the next sibling was paid for
       module _ (p : List ℕ) (at : m.IsAt first p) (t : LabelledTree) (one : m.course.IsDocument t) where
         on : IsOnWay m m' fills fills' label first node p t
@@ -196,21 +202,27 @@ module _ {V W : Type 0} (m : Meaning V W) (label : List ℕ) (first : V) where
         paid : m.course.HasTolls → fills'' + ahead_on (place_toll m.course) t label (next_place on.here) ≤ fills + ahead_at (place_toll m.course) t label p
         paid tolls =
             let cost = on.cost tolls in
-            let step : fills'' ≤ fills' + place_toll m'.course Right on.here = toll (m'.course.at on.here) (m'.told_at node on.here on.at) (so.stays.course.tolls tolls) in
+            let step = asks (so.stays.course.tolls tolls) on.here on.at in
+            let free = m'.walked_owes node on.here so.walked in
             let less = place_toll_less m.course m'.course so.stays.course Right on.here in
             let ahead : ahead_at (place_toll m.course) t label on.here ≡ place_toll m.course Right on.here + ahead_on (place_toll m.course) t label (next_place on.here) =
             other_toll (place_toll m.course) label (trees_at (alone t) on.here) on.here differs ∙ toll_on (place_toll m.course) t label on.here in
-            omega (arith, cost, step, less, ahead)
+            omega (arith, cost, step, free, less, ahead)
 
       pub more_costs : CostsOn m first fills fills'' (λ toll t p. ahead_at toll t label p)
       more_costs tolls p at t one = let h = paid p at t one tolls in omega (arith, h)
 
       module _ (before mid after : ℕ → ℕ) (rises : (s : ℕ) → before s ≤ mid s) (r : Found V) (next : IsNext m' m'' mid after Right node r) where
+        -- the next sibling was reached by a walk
+        reached : (q : V) → r ≡ found.Node q → IsReached m'' q
+        reached q is = subst (IfNode (IsReached m'')) is next.node
+
         -- a search goes on at the next sibling of a node with another label
         pub sought_more : (q : V) → r ≡ found.Node q → IsSought m m'' fills fills'' label first q
         sought_more q is = record {
           stays = stays_twice so.stays stays;
-          is_node = subst (IfNode m''.IsNode) is next.node;
+          is_node = (reached q is).0;
+          walked = (reached q is).1;
           place = λ p at t one.
               let moved : IsMoved m''.IsAt t (next_place (on p at t one).here) (found.Node q) =
               subst (IsMoved m''.IsAt t (next_place (on p at t one).here)) is (next.place (on p at t one).here (on p at t one).at t (so.stays.course.document t one)) in
@@ -234,14 +246,14 @@ module _ {V W : Type 0} (m : Meaning V W) (label : List ℕ) (first : V) where
         }
 
 -- the step to the next sibling costs no more than a search
-pub start_costs : {V W : Type 0} (m : Meaning V W) (label : List ℕ) (n : V) (fills fills' : ℕ) → ((x : W) → m.IsTold n x → m.course.HasTolls → fills' ≤ fills + m.course.toll Right x)
+pub start_costs : {V W : Type 0} (m : Meaning V W) (label : List ℕ) (n : V) (fills fills' : ℕ) → AsksRight m n fills fills'
     → CostsOn m n fills fills' (λ toll t p. select_toll toll t label p)
-start_costs m label n fills fills' toll tolls p at t one =
-    let paid : fills' ≤ fills + place_toll m.course Right p = toll (m.course.at p) (m.told_at n p at) tolls in
+start_costs m label n fills fills' asks tolls p at t one =
+    let paid = asks tolls p at in
     let all = toll_on (place_toll m.course) t label p in omega (arith, paid, all)
 
 -- a search among the later siblings of a node, which begins with a step to the next one
-module _ {V W : Type 0} (m m' : Meaning V W) (label : List ℕ) (n : V) (before mid : ℕ → ℕ) (fills fills' : ℕ) (stays : Stays m m') (toll : (x : W) → m.IsTold n x → m.course.HasTolls → fills' ≤ fills + m.course.toll Right x)
+module _ {V W : Type 0} (m m' : Meaning V W) (label : List ℕ) (n : V) (before mid : ℕ → ℕ) (fills fills' : ℕ) (stays : Stays m m') (asks : AsksRight m n fills fills')
     (r : Found V) (next : IsNext m m' before mid Right n r) where
   -- where there is no next sibling, none of the later siblings is found
   pub select_none : r ≡ found.None → IsSelected m m' before mid label n found.None
@@ -251,6 +263,7 @@ module _ {V W : Type 0} (m m' : Meaning V W) (label : List ℕ) (n : V) (before 
     place = λ p at t one.
         let moved : move_answer t (next_place p) ≡ answer.None = subst (IsMoved m'.IsAt t (next_place p)) is (next.place p at t one) in
         ap (move_answer t) (selected_on t label p ∙ nowhere t label (next_place p) moved);
+    paid = λ tolls p at. subst (UnlessFault (m'.owes n p ≡ 0)) is (next.paid tolls p at);
   }
 
   module _ (q : V) (is : r ≡ found.Node q) where
@@ -259,22 +272,29 @@ module _ {V W : Type 0} (m m' : Meaning V W) (label : List ℕ) (n : V) (before 
       there : IsAsked m'.IsAt (next_place p) q
       there = (subst (IsMoved m'.IsAt t (next_place p)) is (next.place p at t one)).1
 
+    -- once the next sibling was found, nothing is owed for the node
+    started_paid : IsPaidFor m m' n
+    started_paid tolls p at = subst (UnlessFault (m'.owes n p ≡ 0)) is (next.paid tolls p at)
+
     -- what is found from the next sibling on is what was searched among the later siblings
-    pub select_found : (m'' : Meaning V W) (after : ℕ → ℕ) → ((s : ℕ) → before s ≤ mid s) → (r' : Found V) → IsFirst m' m'' mid after label q r' → IsSelected m m'' before after label n r'
-    select_found m'' after rises r' found = record {
+    pub select_found : (m'' : Meaning V W) (after : ℕ → ℕ) → Stays m' m'' → ((s : ℕ) → before s ≤ mid s) → (r' : Found V) → IsFirst m' m'' mid after label q r' → IsSelected m m'' before after label n r'
+    select_found m'' after later rises r' found = record {
       cause = cause_before m.course m'.course stays.course before mid after rises r' found.cause;
       node = found.node;
       place = λ p at t one.
           let same : selected t label p ≡ labelled_at t label (there p at t one).0 = selected_on t label p ∙ ap (labelled_on t label) (there p at t one).1 in
           subst (λ g. IsMoved m''.IsAt t g r') (sym same) (found.place (there p at t one).0 (there p at t one).2 t (stays.course.document t one));
+      paid = λ tolls p at. unless_fault (m''.owes n p ≡ 0) r' (still_paid stays later n started_paid tolls p at);
     }
 
     -- a search among later siblings costs what the way to the next one and the search from it cost
     pub select_costs : (fills'' : ℕ) → CostsOn m' q fills' fills'' (λ toll t p. ahead_at toll t label p) → CostsOn m n fills fills'' (λ toll t p. select_toll toll t label p)
     select_costs fills'' cost tolls p at t one =
-        let paid : fills' ≤ fills + place_toll m.course Right p = toll (m.course.at p) (m.told_at n p at) tolls in
+        let paid = asks tolls p at in
+        let next_is : IsReached m' q = subst (IfNode (IsReached m')) is next.node in
+        let free = m'.walked_owes q (there p at t one).0 next_is.1 in
         let all = toll_on (place_toll m.course) t label p in
         let e = ap (ahead_on (place_toll m.course) t label) (there p at t one).1 in
         let rest = cost (stays.course.tolls tolls) (there p at t one).0 (there p at t one).2 t (stays.course.document t one) in
         let less = ahead_less (place_toll m.course) (place_toll m'.course) (place_toll_less m.course m'.course stays.course) t label (there p at t one).0 in
-        omega (arith, paid, all, e, rest, less)
+        omega (arith, paid, free, all, e, rest, less)

@@ -18,9 +18,10 @@ use Rattle.mix_script.specs.declared.answer.Answer.TheVariants as answer
 use Rattle.mix_session.specs.declared.walker.Found.{Found}
 use Rattle.mix_session.specs.declared.walker.Found.TheVariants as found
 use Rattle.mix_session.specs.Meaning.{Stays}
-use Rattle.mix_session.specs.Seeking.{IsSmaller, IfNode, HasCause, IsAsked, IsMoved, IsRoot, IsNext, ReadsLabel}
+use Rattle.mix_session.specs.Seeking.{IsSmaller, IfNode, IsReached, HasCause, IsAsked, IsMoved, IsRoot, IsNext, ReadsLabel}
 use Rattle.mix_session.specs.Refusals.{of_walk}
 use Rattle.mix_session.specs.Walks.{IsPlace, source_meaning}
+use Rattle.mix_session.proofs.Walking.{unless_fault}
 
 -- what is said of what a buffer found, where it refused nothing
 abbrev Lifts : (Found Spot → Type 0) → Result (Option Spot) WalkFault → Type 0
@@ -131,10 +132,18 @@ module _ (v v' : View) (b b' : Buffer) (goes : Goes v b v' b') where
       at = refl;
       root_toll = omega arith;
       toll = λ way x. omega arith;
+      tells = λ h. h;
+      follows = λ h. h;
+      names = λ node p h. h;
+      named = λ node p h. h;
+      reach = λ node. omega arith;
+      charge = λ p. omega arith;
     };
     node = goes.spot;
     place = λ x p h. (goes.spot x h.0, goes.place x h.0 ∙ h.1);
     told = λ x node h. goes.spot x h;
+    walked = λ x h. h;
+    owes = λ x p h. omega arith;
     left = goes.after;
     height = λ x h. let b = goes.below x h in let a = goes.after x h in omega (arith, a, b);
   }
@@ -150,7 +159,7 @@ module _ (v v' : View) (b b' : Buffer) (goes : Goes v b v' b') where
   smaller_right : (x : Spot) (o : Result (Option Spot) WalkFault) → IfOk o (λ r. IfSome r (λ c. from_spot v' b' c ≤ after v b x))
       → Lifts (IfNode (IsSmaller (source_meaning v b) (source_meaning v' b') Right x)) o
   smaller_right x (Ok None) h = tt
-  smaller_right x (Ok (Some c)) h = let less : 1 + below v' b' c + after v' b' c ≤ after v b x = h in (omega (arith, less), omega (arith, less))
+  smaller_right x (Ok (Some c)) h = let less : 1 + below v' b' c + after v' b' c ≤ after v b x = h in (λ walked. omega (arith, less), omega (arith, less))
   smaller_right x (Err fault) h = tt
 
   module _ (o : Result (Option Spot) WalkFault) (r : Found Spot) (is : of_walk o r) (refused : Causes.HasCause (IsSourceOf b) v v' o) where
@@ -172,13 +181,14 @@ module _ (v v' : View) (b b' : Buffer) (goes : Goes v b v' b') where
         → IfOk o (λ r. IfSome r (λ c. from_spot v' b' c ≤ below v b x)) → IsNext (source_meaning v b) (source_meaning v' b') v.faults v'.faults Down x r
     source_down x spot child exact less = record {
       cause = cause;
-      node = given (IsSpot b') (child_found (IsSpot b') b' x o (λ c h. h) child);
+      node = given (IsReached (source_meaning v' b')) (child_found (IsReached (source_meaning v' b')) b' x o (λ c h. (h, tt)) child);
       place = λ p at t one.
           let there = exact_on o (v.told (number_of b) ≡ true) _ (λ r. is_some r ≡ has_place (above t) (child_place (0 ∷ p))) one.0
           (λ r e. e ∙ ap (λ q. has_place (document_node v (number_of b)) (child_place q)) at.1 ∙ ap (λ f. has_place f (child_place (0 ∷ p))) (node_is v (number_of b) t one.1)) exact in
           moved t (Some (child_place p)) (moved_down t b' x (0 ∷ p) o (goes.place x at.0 ∙ at.1) child there (child_place p) refl);
       told = λ node at tolls. given (IsAsked (λ x node. IsSpot b' x) (Some tt)) (child_found (IsAsked (λ x node. IsSpot b' x) (Some tt)) b' x o (λ c h. (tt, refl, h)) child);
       smaller = given (IsSmaller (source_meaning v b) (source_meaning v' b') Down x) (smaller_down x o less);
+      paid = λ tolls p at. unless_fault (0 ≡ 0) r refl;
     }
 
     -- a buffer's search for the next sibling of a spot is one of the walker
@@ -187,13 +197,14 @@ module _ (v v' : View) (b b' : Buffer) (goes : Goes v b v' b') where
         → IfOk o (λ r. IfSome r (λ c. from_spot v' b' c ≤ after v b x)) → IsNext (source_meaning v b) (source_meaning v' b') v.faults v'.faults Right x r
     source_right x spot next exact less = record {
       cause = cause;
-      node = given (IsSpot b') (next_found (IsSpot b') b' x o (λ c h. h) next);
+      node = given (IsReached (source_meaning v' b')) (next_found (IsReached (source_meaning v' b')) b' x o (λ c h. (h, tt)) next);
       place = λ p at t one.
           let there = exact_on o (v.told (number_of b) ≡ true) _ (λ r. is_some r ≡ has_next (above t) (0 ∷ p)) one.0
           (λ r e. e ∙ ap (has_next (document_node v (number_of b))) at.1 ∙ ap (λ f. has_next f (0 ∷ p)) (node_is v (number_of b) t one.1)) exact in
           moved t (next_place p) (moved_right t b' x p o (goes.place x at.0 ∙ at.1) next there);
       told = λ node at tolls. given (IsAsked (λ x node. IsSpot b' x) (Some tt)) (next_found (IsAsked (λ x node. IsSpot b' x) (Some tt)) b' x o (λ c h. (tt, refl, h)) next);
       smaller = given (IsSmaller (source_meaning v b) (source_meaning v' b') Right x) (smaller_right x o less);
+      paid = λ tolls p at. unless_fault (0 ≡ 0) r refl;
     }
 
     -- a buffer's search for the root, which is the first child of the document node, is one of the walker
@@ -202,7 +213,7 @@ module _ (v v' : View) (b b' : Buffer) (goes : Goes v b v' b') where
         → IsRoot (source_meaning v b) (source_meaning v' b') v.faults v'.faults r
     source_root top spot at child exact = record {
       cause = cause;
-      node = given (IsSpot b') (child_found (IsSpot b') b' top o (λ c h. h) child);
+      node = given (IsReached (source_meaning v' b')) (child_found (IsReached (source_meaning v' b')) b' top o (λ c h. (h, tt)) child);
       sure = λ e. cc;
       place = λ t one.
           let there = exact_on o (v.told (number_of b) ≡ true) _ (λ r. is_some r ≡ has_place (above t) (child_place [])) one.0

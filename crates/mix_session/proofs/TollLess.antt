@@ -5,7 +5,7 @@ use Rattle.mix_tree.specs.Place.{trees_at, child_place}
 use Rattle.mix_script.specs.Names.{NamesOf}
 use Rattle.mix_script.specs.Transcript.{Names}
 use Rattle.mix_script.specs.declared.step.Act.{Act}
-use Rattle.mix_script.specs.declared.step.Act.TheVariants.{Root, Move, Select, Fetch, Print}
+use Rattle.mix_script.specs.declared.step.Act.TheVariants.{Root, Move, Select, Fetch, Print, Id, At}
 use Rattle.mix_script.specs.declared.step.Way.TheVariants.{Down}
 use Rattle.mix_session.specs.Meaning.{Course, GoesOn}
 use Rattle.mix_session.specs.Printing.{place_toll}
@@ -28,6 +28,8 @@ module _ {W : Type 0} (c d : Course W) (goes : GoesOn c d) where
   act_toll_less xs client (Select name from label) = omega arith
   act_toll_less xs client (Fetch from) = omega arith
   act_toll_less xs client (Print from) = omega arith
+  act_toll_less xs client (Id from) = omega arith
+  act_toll_less xs client (At name node) = omega arith
 
   -- the toll of a search did not rise
   select_toll_less : (t : LabelledTree) (label p : List ℕ) → select_toll (place_toll d) t label p ≤ select_toll (place_toll c) t label p
@@ -47,3 +49,5 @@ module _ {W : Type 0} (c d : Course W) (goes : GoesOn c d) where
   tree_toll_less t places client (Select name from label) = from_less (select_toll (place_toll c) t label) (select_toll (place_toll d) t label) (select_toll_less t label) (places client from)
   tree_toll_less t places client (Fetch from) = omega arith
   tree_toll_less t places client (Print from) = from_less (print_toll (place_toll c) t) (print_toll (place_toll d) t) (print_toll_less t) (places client from)
+  tree_toll_less t places client (Id from) = omega arith
+  tree_toll_less t places client (At name node) = goes.reach node

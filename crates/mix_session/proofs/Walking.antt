@@ -1,5 +1,6 @@
 -- Calls of a walker, one after another.
 use Rattle.std.proofs.Common.{◌≡◌, ◌∙◌, ◌+◌, ◌≤◌, ℕ, zero, suc, List, [], ◌∷◌, Option, Some, None, option_map, Result, Ok, Err, refl, ap, subst, arith}
+use Rattle.std.specs.Prelude.{OnOk}
 use Rattle.mix_tree.specs.Forest.{Forest, first_kids, after_first, from}
 use Rattle.mix_tree.specs.Place.{trees_at, next_place}
 use Rattle.mix_base.proofs.Risen.{risen_before}
@@ -9,8 +10,8 @@ use Rattle.mix_script.specs.declared.step.Way.{Way}
 use Rattle.mix_session.specs.declared.walker.Found.{Found}
 use Rattle.mix_session.specs.declared.walker.Found.TheVariants as found
 use Rattle.mix_session.specs.Meaning.{Course, Meaning, GoesOn, Stays}
-use Rattle.mix_session.specs.Seeking.{HasCause}
-use Rattle.mix_session.specs.Printing.{place_toll, FailsBy}
+use Rattle.mix_session.specs.Seeking.{HasCause, UnlessFault}
+use Rattle.mix_session.specs.Printing.{place_toll, FailsBy, IsPaidFor}
 
 -- a course that goes on and goes on again goes on from the first to the last
 pub goes_on_twice : {W : Type 0} {c d e : Course W} → GoesOn c d → GoesOn d e → GoesOn c e
@@ -23,6 +24,12 @@ goes_on_twice g h = record {
   at = h.at ∙ g.at;
   root_toll = omega (arith, h.root_toll, g.root_toll);
   toll = λ way x. omega (arith, h.toll way x, g.toll way x);
+  tells = λ k. h.tells (g.tells k);
+  follows = λ k. h.follows (g.follows k);
+  names = λ node p k. g.names node p (h.names node p k);
+  named = λ node p k. h.named node p (g.named node p k);
+  reach = λ node. omega (arith, h.reach node, g.reach node);
+  charge = λ p. omega (arith, h.charge p, g.charge p);
 }
 
 -- what stays over each of two calls stays over both
@@ -33,6 +40,8 @@ stays_twice g h = record {
   node = λ n k. h.node n (g.node n k);
   place = λ n p k. h.place n p (g.place n p k);
   told = λ n x k. h.told n x (g.told n x k);
+  walked = λ n k. h.walked n (g.walked n k);
+  owes = λ n p k. omega (arith, h.owes n p (g.place n p k), g.owes n p k);
   left = λ n k. omega (arith, h.left n (g.node n k), g.left n k);
   height = λ n k. omega (arith, h.height n (g.node n k), g.height n k);
 }
@@ -68,7 +77,22 @@ trees_at-next f (i ∷ j ∷ p) q e = deeper (next_place (j ∷ p)) (λ r z. tre
 
 -- a course goes on where there is no call
 pub goes_on_same : {W : Type 0} (c : Course W) → GoesOn c c
-goes_on_same c = record { roots = refl; may = λ s h. h; document = λ t h. h; tolls = λ h. h; trail = refl; at = refl; root_toll = omega arith; toll = λ way x. omega arith }
+goes_on_same c = record {
+  roots = refl;
+  may = λ s h. h;
+  document = λ t h. h;
+  tolls = λ h. h;
+  trail = refl;
+  at = refl;
+  root_toll = omega arith;
+  toll = λ way x. omega arith;
+  tells = λ h. h;
+  follows = λ h. h;
+  names = λ node p h. h;
+  named = λ node p h. h;
+  reach = λ node. omega arith;
+  charge = λ p. omega arith;
+}
 
 -- where there is no call, all that a walker means stays
 pub stays_same : {V W : Type 0} (m : Meaning V W) → m.IsReady → Stays m m
@@ -78,6 +102,8 @@ stays_same m ready = record {
   node = λ n h. h;
   place = λ n p h. h;
   told = λ n x h. h;
+  walked = λ n h. h;
+  owes = λ n p h. omega arith;
   left = λ n h. omega arith;
   height = λ n h. omega arith;
 }
@@ -87,3 +113,18 @@ pub fails_before : {V W X : Type 0} {m m' : Meaning V W} → Stays m m' → (bef
 fails_before stays before mid after rises (Ok x) h = tt
 fails_before stays before mid after rises (Err (Failed s)) h = (stays.course.may s h.0, risen_before (before s) (mid s) (after s) (rises s) h.1)
 fails_before stays before mid after rises (Err OutOfMemory) h = tt
+
+-- for what nothing was owed after a call, nothing is owed after a later one
+pub still_paid : {V W : Type 0} {m m' m'' : Meaning V W} → Stays m m' → Stays m' m'' → (n : V) → IsPaidFor m m' n → IsPaidFor m m'' n
+still_paid stays later n paid tolls p at = let free = paid tolls p at in let less = later.owes n p (stays.place n p at) in omega (arith, free, less)
+
+-- what is so is so where no source failed
+pub unless_fault : {V : Type 0} (Holds : Type 0) (r : Found V) → Holds → UnlessFault Holds r
+unless_fault Holds (found.Node n) h = h
+unless_fault Holds found.None h = h
+unless_fault Holds (found.Fault s) h = tt
+
+-- what is so is so where a call was answered
+pub on_ok : {X E : Type 0} (r : Result X E) (Holds : Type 0) → Holds → OnOk r Holds
+on_ok (Ok x) Holds h = h
+on_ok (Err e) Holds h = tt

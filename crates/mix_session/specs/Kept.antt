@@ -4,7 +4,7 @@ use Rattle.lxp_core.specs.View.{View}
 use Rattle.tree_buffer.specs.declared.buffer.Buffer.{Buffer}
 use Rattle.lazy_plan.proofs.Benches.{keeps_on}
 use Rattle.lazy_value.specs.declared.mediator.Mediator.{Mediator}
-use Rattle.lazy_value.specs.Mediators.{state_of}
+use Rattle.lazy_value.specs.Named.{state_of}
 use Rattle.mix_session.specs.Walks.{SourceKept, PlanKept}
 
 -- a buffer goes on from a state to that same state
@@ -45,8 +45,8 @@ source_kept_twice v b v' b' v'' b'' first second = record {
 pub plan_kept_same : (v : View) (m : Mediator) → PlanKept v m v m
 plan_kept_same v m = record {
   kept = keeps_on.same (state_of v m);
-  stay = record { node = λ n h. h; place = λ n p h. h; left = λ n h. omega arith };
-  heights = λ n h. omega arith;
+  stay = record { named = λ n h. h; place = λ n p h. h; left = λ n h. omega arith; height = λ n h. omega arith };
+  owed = λ n p. omega arith;
 }
 
 -- what a mediator keeps to a second state and from there to a third it keeps from the first to the third
@@ -54,9 +54,10 @@ pub plan_kept_twice : (v : View) (m : Mediator) (v' : View) (m' : Mediator) (v''
 plan_kept_twice v m v' m' v'' m'' first second = record {
   kept = keeps_on.twice (state_of v m) (state_of v' m') (state_of v'' m'') first.kept second.kept;
   stay = record {
-    node = λ n h. second.stay.node n (first.stay.node n h);
+    named = λ n h. second.stay.named n (first.stay.named n h);
     place = λ n p h. second.stay.place n p (first.stay.place n p h);
-    left = λ n h. omega (arith, second.stay.left n (first.stay.node n h), first.stay.left n h);
+    left = λ n h. omega (arith, second.stay.left n (first.stay.named n h), first.stay.left n h);
+    height = λ n h. omega (arith, second.stay.height n (first.stay.named n h), first.stay.height n h);
   };
-  heights = λ n h. omega (arith, second.heights n (first.stay.node n h), first.heights n h);
+  owed = λ n p. omega (arith, second.owed n p, first.owed n p);
 }

@@ -16,7 +16,7 @@ use Rattle.mix_script.specs.declared.answer.Answer.TheVariants as answer
 use Rattle.mix_session.specs.declared.walker.Found.{Found}
 use Rattle.mix_session.specs.declared.walker.Found.TheVariants as found
 use Rattle.mix_session.specs.Meaning.{Course, Meaning, Stays}
-use Rattle.mix_session.specs.Seeking.{IsMoved, IsSmaller, ReadsLabel}
+use Rattle.mix_session.specs.Seeking.{IsMoved, IsReached, IsSmaller, ReadsLabel}
 
 -- the toll of a way from a place of the document
 abbrev pub place_toll : {W : Type 0} → Course W → Way → List ℕ → ℕ
@@ -42,25 +42,30 @@ pub record PrintsTrees {V W : Type 0} (m : Meaning V W) (n : V) (before after : 
   pub text : after ≡ before ++ canon_trees (tree label kids rest)
   pub place : (p : List ℕ) → m.IsAt n p → (t : LabelledTree) → m.course.IsDocument t → trees_at (alone t) p ≡ tree label kids rest
 
--- where calls have tolls, a call from a node at a place of the document asked at most as many fills as a given toll of that place says
+-- where calls have tolls, a call from a node at a place of the document asked at most as many fills as are owed for the node and a given toll of that place says
 abbrev pub CostsOn : {V W : Type 0} → Meaning V W → V → ℕ → ℕ → ((Way → List ℕ → ℕ) → LabelledTree → List ℕ → ℕ) → Type 0
 CostsOn m n fills fills' toll =
-    m.course.HasTolls → (p : List ℕ) → m.IsAt n p → (t : LabelledTree) → m.course.IsDocument t → fills' ≤ fills + toll (place_toll m.course) t p
+    m.course.HasTolls → (p : List ℕ) → m.IsAt n p → (t : LabelledTree) → m.course.IsDocument t → fills' ≤ fills + (m.owes n p + toll (place_toll m.course) t p)
 
 -- where a node stands at a place of the document, the document has that place
 abbrev pub IsThere : {V W : Type 0} → Meaning V W → V → Type 0
 IsThere m n = (p : List ℕ) → m.IsAt n p → (t : LabelledTree) → m.course.IsDocument t → has_place (alone t) p ≡ true
+
+-- where calls have tolls, nothing is owed any more for a node
+abbrev pub IsPaidFor : {V W : Type 0} → Meaning V W → Meaning V W → V → Type 0
+IsPaidFor m m' n = m.course.HasTolls → (p : List ℕ) → m.IsAt n p → m'.owes n p ≡ 0
 
 -- what a search comes to that found a given node, or none
 abbrev pub found_as : {V : Type 0} → Option V → Found V
 found_as None = found.None
 found_as (Some n) = found.Node n
 
--- a step from a node led to the node that the document has there, or to none where it has none; a found node has smaller numbers
+-- a step from a node led to the node that the document has there, or to none where it has none; a found node has smaller numbers, and nothing more is owed
 pub record IsStepTo {V W : Type 0} (m m' : Meaning V W) (way : Way) (n : V) (r : Option V) : Type 0 where
-  pub node : IfSome r m'.IsNode
+  pub node : IfSome r (IsReached m')
   pub place : (p : List ℕ) → m.IsAt n p → (t : LabelledTree) → m.course.IsDocument t → IsMoved m'.IsAt t (place_to way p) (found_as r)
   pub smaller : IfSome r (IsSmaller m m' way n)
+  pub paid : IsPaidFor m m' n
 
 -- an answer is the canonical text of the subtree of a node, or a fault of a source that may fail and whose count of faults rose
 abbrev pub IsPrinted : {V W : Type 0} → Meaning V W → (ℕ → ℕ) → (ℕ → ℕ) → V → Answer → Type 0
@@ -70,6 +75,8 @@ IsPrinted m before after n (answer.Label l) = ⊥
 IsPrinted m before after n (answer.Text x) = PrintsTree m n [] x
 IsPrinted m before after n answer.NoNode = ⊥
 IsPrinted m before after n (answer.Fault s) = m.course.MayFail s × HasRisen (before s) (after s)
+IsPrinted m before after n (answer.Id x) = ⊥
+IsPrinted m before after n answer.Foreign = ⊥
 
 -- the mark after a label: an opening bracket where there is a first child
 abbrev pub opening : {V : Type 0} → Option V → List ℕ

@@ -7,7 +7,7 @@ use Rattle.mix_script.specs.Transcript.{first_labelled}
 use Rattle.mix_script.specs.declared.step.Way.{Way}
 use Rattle.mix_session.specs.declared.walker.Found.{Found}
 use Rattle.mix_session.specs.Meaning.{Meaning}
-use Rattle.mix_session.specs.Seeking.{IfNode, HasCause, IsMoved}
+use Rattle.mix_session.specs.Seeking.{IfNode, HasCause, IsMoved, IsReached}
 use Rattle.mix_session.specs.Tolls.{search_toll}
 
 -- the place of the first of these trees with a label, where the first one stands at a place
@@ -31,5 +31,5 @@ ahead_at toll t label place = ahead_from toll label (trees_at (alone t) place) p
 -- a search from a node on for a label finds the first such node among it and its later siblings, or none, or a source fails
 pub record IsFirst {V W : Type 0} (m m' : Meaning V W) (before after : ℕ → ℕ) (label : List ℕ) (first : V) (r : Found V) : Type 0 where
   pub cause : HasCause m.course.MayFail before after r
-  pub node : IfNode m'.IsNode r
+  pub node : IfNode (IsReached m') r
   pub place : (p : List ℕ) → m.IsAt first p → (t : LabelledTree) → m.course.IsDocument t → IsMoved m'.IsAt t (labelled_at t label p) r

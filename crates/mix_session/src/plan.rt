@@ -4,6 +4,7 @@ use lazy_value::{Mediator, NodeId};
 use lxp_core::Sources;
 use mix_script::Way;
 use mix_tree::Label;
+use node_text::NodeData;
 use std::alloc::{AllocError, Global};
 
 impl Walker for Mediator {
@@ -38,6 +39,19 @@ impl Walker for Mediator {
 
     fn read_label(&self, n: &NodeId) -> &Label {
         self.fetch(n)
+    }
+
+    fn tell(&self, alloc: Global, n: &NodeId) -> Result<NodeData, AllocError> {
+        self.node_data(alloc, n)
+    }
+
+    fn seek_named<S: Sources>(
+        &mut self,
+        alloc: Global,
+        s: &mut S,
+        node: &NodeData,
+    ) -> Result<Found<NodeId>, AllocError> {
+        found_in(self.at(alloc, s, node))
     }
 
     ghost twice = { plan_kept_twice };

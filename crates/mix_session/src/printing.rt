@@ -1,9 +1,10 @@
 // The text of a subtree.
-ghost use Rattle.std.specs.Prelude.{◌≡◌, ◌++◌, IfOk, OnOk};
+ghost use Rattle.std.specs.Prelude.{◌≡◌, ◌++◌, None, IfOk, OnOk};
 ghost use Rattle.lxp_core.specs.View.{View};
 ghost use Rattle.mix_session.specs.Meaning.{Meaning, Stays};
-ghost use Rattle.mix_session.specs.Printing.{CostsOn, FailsBy, IsPrinted, IsStepTo, IsThere, OpensTree, PrintsBelow, PrintsOne, PrintsTree, Walked, closing, opening};
+ghost use Rattle.mix_session.specs.Printing.{CostsOn, FailsBy, IsPaidFor, IsPrinted, IsStepTo, IsThere, OpensTree, PrintsBelow, PrintsOne, PrintsTree, Walked, closing, opening};
 ghost use Rattle.mix_session.specs.Tolls.{one_toll, print_toll, siblings_toll};
+ghost use Rattle.mix_script.specs.Allowed.{mark_of};
 ghost use Rattle.mix_script.specs.declared.step.Way.TheVariants.{Down, Right};
 
 use crate::walker::{Found, Walker};
@@ -117,6 +118,7 @@ fn print_tree<W: Walker, S: Sources>(
     ensures walked { let m = W.means (S.view s.old) walker.old in
         Walked m (W.means (S.view s.new) walker.new) (S.view s.old) (S.view s.new) n.now print_toll result }
     ensures text { let m = W.means (S.view s.old) walker.old in OnOk result (PrintsTree m n.now text.old.items text.new.items) }
+    ensures paid { OnOk result (IsPaidFor (W.means (S.view s.old) walker.old) (W.means (S.view s.new) walker.new) n.now) }
 {
     match open_tree(alloc, s, walker, n, text)? {
         Some(first) => print_trees(alloc, s, walker, first, text),
@@ -147,7 +149,8 @@ fn print_one<W: Walker, S: Sources>(
     next_tree(alloc, s, walker, n, text)
 }
 
-// Puts the texts of the subtrees of a node and of its later siblings after a text, with commas between them and a closing bracket.
+// Puts the texts of the subtrees of a node to which a walk led and of its later siblings after a text, with commas between them and
+// a closing bracket.
 #[cycle(printing)]
 fn print_trees<W: Walker, S: Sources>(
     alloc: Global,
@@ -158,6 +161,7 @@ fn print_trees<W: Walker, S: Sources>(
 ) -> Result<(), WalkFault>
     requires ready { (W.means (S.view s.old) walker.old).IsReady }
     requires node { (W.means (S.view s.old) walker.old).IsNode first }
+    requires walked { (W.means (S.view s.old) walker.old).IsWalked first }
     ensures came { S.came_from s.old s.new }
     ensures kept { W.keeps (S.view s.old) walker.old (S.view s.new) walker.new }
     ensures walked { let m = W.means (S.view s.old) walker.old in
@@ -173,8 +177,8 @@ fn print_trees<W: Walker, S: Sources>(
     }
 }
 
-/// The answer that is the canonical text of the subtree of a node, or a fault of the source that failed on the way. Every
-/// earlier node stays, whatever is answered, and after want of memory.
+/// The answer that is the canonical text of the subtree of a node, or a fault of the source that failed on the way. After a text
+/// nothing is owed for the node. Every earlier node stays, whatever is answered, and after want of memory.
 pub fn print<W: Walker, S: Sources>(
     alloc: Global,
     s: &mut S,
@@ -187,6 +191,8 @@ pub fn print<W: Walker, S: Sources>(
     ensures kept { W.keeps (S.view s.old) walker.old (S.view s.new) walker.new }
     ensures stays { Stays (W.means (S.view s.old) walker.old) (W.means (S.view s.new) walker.new) }
     ensures printed { let m = W.means (S.view s.old) walker.old in IfOk result (IsPrinted m (S.view s.old).faults (S.view s.new).faults n.now) }
+    ensures paid { let m = W.means (S.view s.old) walker.old in let m' = W.means (S.view s.new) walker.new in
+        IfOk result (λ a. mark_of a ≡ None → IsPaidFor m m' n.now) }
     ensures cost { CostsOn (W.means (S.view s.old) walker.old) n.now (S.view s.old).fills (S.view s.new).fills print_toll }
 {
     let mut text = Vec::new(alloc);

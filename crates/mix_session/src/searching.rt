@@ -13,7 +13,7 @@ use mix_script::Way;
 use mix_tree::{Label, same_label};
 use std::alloc::{AllocError, Global};
 
-// The first node with a label among a node and its later siblings.
+// The first node with a label among a node to which a walk led and its later siblings.
 fn search<W: Walker, S: Sources>(
     alloc: Global,
     s: &mut S,
@@ -23,6 +23,7 @@ fn search<W: Walker, S: Sources>(
 ) -> Result<Found<W::Node>, AllocError>
     requires ready { (W.means (S.view s.old) walker.old).IsReady }
     requires node { (W.means (S.view s.old) walker.old).IsNode first }
+    requires walked { (W.means (S.view s.old) walker.old).IsWalked first }
     ensures came { S.came_from s.old s.new }
     ensures kept { W.keeps (S.view s.old) walker.old (S.view s.new) walker.new }
     ensures stays { Stays (W.means (S.view s.old) walker.old) (W.means (S.view s.new) walker.new) }

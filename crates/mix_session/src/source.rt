@@ -2,7 +2,8 @@
 use crate::walker::{Found, Walker, found_in};
 use lxp_core::Sources;
 use mix_script::Way;
-use mix_tree::Label;
+use mix_tree::{Label, Place};
+use node_text::NodeData;
 use std::alloc::{AllocError, Global};
 use tree_buffer::{Buffer, Spot};
 
@@ -43,6 +44,23 @@ impl Walker for Buffer {
 
     fn read_label(&self, n: &Spot) -> &Label {
         self.label(n)
+    }
+
+    // No texts are told of a source's own document: the one of the root stands for all.
+    fn tell(&self, alloc: Global, _: &Spot) -> Result<NodeData, AllocError> {
+        let levels = Vec::new(alloc);
+        let inside = Place::new(Vec::new(alloc));
+        Ok(NodeData { levels, inside })
+    }
+
+    // No text names a node of a source's own document.
+    fn seek_named<S: Sources>(
+        &mut self,
+        _: Global,
+        _: &mut S,
+        _: &NodeData,
+    ) -> Result<Found<Spot>, AllocError> {
+        Ok(Found::None)
     }
 
     ghost twice = { source_kept_twice };

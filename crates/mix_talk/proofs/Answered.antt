@@ -14,7 +14,7 @@ use Rattle.mix_script.specs.declared.step.Step.{Step}
 use Rattle.mix_script.specs.declared.answer.Answer.{Answer}
 use Rattle.mix_script.proofs.Answering.{has_fault_push}
 use Rattle.mix_session.specs.Meaning.{Course, Meaning}
-use Rattle.mix_session.specs.Stepped.{IsStep, Stepped}
+use Rattle.mix_session.specs.Stepped.{IsStep, NamesGiven, Stepped}
 use Rattle.mix_lines.specs.Cuts.{WrotePrefix, IsStepCut}
 use Rattle.mix_lines.specs.Lines.{IsRun, IsLazy}
 use Rattle.mix_lines.specs.Written.{IsSoFar}
@@ -67,7 +67,7 @@ module _ {V W : Type 0} (c : Course W) (m : Meaning V W) (old now : View) (value
       pub talking_short : TalkEnds c old v' names input mid sink between (Err OutOfMemory)
       talking_short = talk_ends c old v' names input mid sink between far.bytes far.took far.timely (Err OutOfMemory) (inl (before_line between refl))
 
-      module _ (a : Answer) (is : IsStep m m' now.faults v'.faults values values' s.client s.act a) where
+      module _ (a : Answer) (is : IsStep m m' now.faults v'.faults values values' s.client s.act a) (given : NamesGiven m' values values' s.client s.act a) where
         -- where a step's line was written, the talk has come one step further
         pub talking_step : (after : Option (List ℕ)) → Appends between.written after (line_of names s.client a) → IsTalking c m' old v' values' names input mid r sink.written after (marked || is_fault a) []
         talking_step after wrote =
@@ -87,7 +87,7 @@ module _ {V W : Type 0} (c : Course W) (m : Meaning V W) (old now : View) (value
               answers = far.answers ++ a ∷ [];
               so = λ later.
                   subst (λ steps. IsSoFar c m' old v' values' steps later (far.answers ++ a ∷ [])) (sym (append_assoc (steps_in far.done) (s ∷ []) later) ∙ ap (λ steps. steps ++ later) (sym same))
-                  (next c m m' old now v' values values' (steps_in far.done ++ s ∷ later) s later far.answers (far.so (s ∷ later)) rises answered stepped a is);
+                  (next c m m' old now v' values values' (steps_in far.done ++ s ∷ later) s later far.answers (far.so (s ∷ later)) rises answered stepped a is given);
               all = length-append far.answers (a ∷ []) ∙ ap (λ n. n + 1) far.all ∙ sym (ap (λ (xs : List Step). length xs) same ∙ length-append (steps_in far.done) (s ∷ []));
               written = subst (Appends sink.written after) (sym lines) (one_more sink.written between.written after (spoken names far.done far.answers) (line_of names s.client a) far.written wrote);
               marks = ap (λ k. k || is_fault a) far.marks ∙ sym (has_fault_push far.answers a);
@@ -109,7 +109,7 @@ module _ {V W : Type 0} (c : Course W) (m : Meaning V W) (old now : View) (value
               answers = far.answers;
               last = a ∷ [];
               are = so_far_run c m' old v' v' values' (steps_in (heard far.bytes)) (steps_in (heard r.page)) (far.answers ++ a ∷ [])
-                  (next c m m' old now v' values values' (steps_in (heard far.bytes)) s (steps_in (heard r.page)) far.answers here rises answered stepped a is) (λ n. omega arith);
+                  (next c m m' old now v' values values' (steps_in (heard far.bytes)) s (steps_in (heard r.page)) far.answers here rises answered stepped a is given) (λ n. omega arith);
               all = far.all;
               one = refl;
               count = written.0;

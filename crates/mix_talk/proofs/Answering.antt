@@ -40,13 +40,13 @@ module _ {V W : Type 0} (c : Course W) (m m' : Meaning V W) (old now v' : View) 
       → IsTalking c m' old v' values' names input mid r sink.written sink'.written (marked || k) []
   step_told s far (Ok a) stepped k said =
       rw (said.marks, said.answer)
-      (talking_step c m old now values names input mid r sink between marked s far m' v' values' rises (Ok a) stepped a stepped.answer sink'.written (subst (λ x. Appends between.written sink'.written (line_of names s.client x)) said.answer said.written))
+      (talking_step c m old now values names input mid r sink between marked s far m' v' values' rises (Ok a) stepped a stepped.answer stepped.names sink'.written (subst (λ x. Appends between.written sink'.written (line_of names s.client x)) said.answer said.written))
   step_told s far (Err e) stepped k said = absurd said
 
   -- where a step's line was cut short, or there was none, the talk ends
   step_cut : (s : step.Step) → Coming (heard.step s ∷ []) → (answered : Result Answer AllocError) → Stepped m m' now v' values values' s.client s.act answered → (fault : LinesFault) → IsSaid names s.client between sink' answered (Err fault)
       → sink.faults ≤ between.faults → TalkEnds c old v' names input mid sink sink' (Err (of_lines fault))
-  step_cut s far (Ok a) stepped fault said more = talking_cut c m old now values names input mid r sink between marked s far m' v' values' rises (Ok a) stepped a stepped.answer sink' more fault said
+  step_cut s far (Ok a) stepped fault said more = talking_cut c m old now values names input mid r sink between marked s far m' v' values' rises (Ok a) stepped a stepped.answer stepped.names sink' more fault said
   step_cut s far (Err e) stepped fault said more =
       rw (said.0, said.1) (talking_short c m old now values names input mid r sink between marked s far m' v' values' rises (Err e) stepped)
 

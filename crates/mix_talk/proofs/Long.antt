@@ -6,6 +6,7 @@ use Rattle.mix_words.specs.Lines.{lines_of, without_cr}
 use Rattle.mix_words.proofs.LineCuts.{is_lf, line_cut, last_line}
 use Rattle.mix_words.proofs.Pieces.{Free}
 use Rattle.mix_script.specs.Steps.{line_steps}
+use Rattle.mix_script.specs.declared.step.Forms.TheVariants.{WithIds}
 use Rattle.mix_talk.specs.Heard.{no_form, asked, heard, line_asks, lines_ask}
 use Rattle.mix_talk.specs.Reading.{HasNoLf, IsLine}
 
@@ -73,7 +74,7 @@ heard_last line none some = ap lines_ask (lines_without line none some) ∙ appe
 
 -- a line that is too long is of no form
 long_line : (line : List ℕ) → 1048576 < length line → line_asks line ≡ no_form ∷ []
-long_line line long = let e : nat_lt 1048576 (length line) ≡ true = grind arith in ap (λ b. asked (cond b None (line_steps line))) e
+long_line line long = let e : nat_lt 1048576 (length line) ≡ true = grind arith in ap (λ b. asked (cond b None (line_steps WithIds line))) e
 
 -- a line is at most one byte longer than without the CR at its end
 cr_length : (line : List ℕ) → length line ≤ length (without_cr line) + 1

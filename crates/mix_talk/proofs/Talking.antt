@@ -92,7 +92,7 @@ talking_start m v values names input r before session none page goes = record {
     no : false ≡ true → ⊥
     no h = cc
 
--- over a document that is told a talk ends as the tree's lines tell
+-- over a document that is told a talk ends as its lines tell
 pub talk_ends : {W : Type 0} (c : Course W) (old new : View) (names : List (List ℕ)) (input input' : InputView) (sink sink' : SinkView) (bytes : List ℕ) → Took input input' bytes
     → IsTakenInTime names bytes sink.written sink'.written → (r : Result Bool TalkFault)
     → EndsBy (IsRun c old.faults new.faults (steps_in (heard_by bytes r))) (IsLazy c old.fills new.fills (steps_in (heard_by bytes r))) names (heard_by bytes r) input input' sink sink' r
@@ -102,9 +102,10 @@ talk_ends c old new names input input' sink sink' bytes took timely r ends = rec
   took = took;
   timely = timely;
   ends = ends;
-  told = λ t one.
+  told = λ f one right.
       let steps = steps_in (heard_by bytes r) in
-      ends_on (IsRun c old.faults new.faults steps) (IsLazy c old.fills new.fills steps) t names (heard_by bytes r) input input' sink sink' c.roots c.MayFail (λ answers are. are.allowed) (λ answers are. are.told t one) r ends;
+      ends_on (IsRun c old.faults new.faults steps) (IsLazy c old.fills new.fills steps) c.NamesAt f names (heard_by bytes r) input input' sink sink' c.roots c.MayFail (λ answers are. are.allowed)
+      (λ answers are. are.told f one right) r ends;
 }
 
 -- where memory ran out before a talk began, the talk ends

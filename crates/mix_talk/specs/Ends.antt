@@ -1,12 +1,12 @@
 -- How a talk ends.
 use Rattle.std.specs.Prelude.{◌≡◌, ◌⊎◌, ℕ, Bool, List, [], ◌∷◌, ◌++◌, ◌≤◌, length, take, Option, Result, Ok, Err}
 use Rattle.mix_base.specs.Counts.{HasRisen}
-use Rattle.mix_tree.specs.Forest.{LabelledTree}
 use Rattle.mix_io.specs.Contents.{Appends}
 use Rattle.mix_io.specs.Input.{InputView, IsAtEnd, Took}
 use Rattle.mix_io.specs.Views.{SinkView}
 use Rattle.lxp_core.specs.View.{View}
 use Rattle.mix_script.specs.Allowed.{has_fault}
+use Rattle.mix_script.specs.Transcript.{Finished, IsRight}
 use Rattle.mix_script.specs.declared.answer.Answer.{Answer}
 use Rattle.mix_session.specs.Meaning.{Course}
 use Rattle.mix_lines.specs.Lines.{IsRun, IsLazy}
@@ -87,4 +87,4 @@ pub record TalkEnds {W : Type 0} (c : Course W) (old new : View) (names : List (
   pub timely : IsTakenInTime names bytes before.written after.written
   pub ends : let steps = steps_in (heard_by bytes r) in
       EndsBy (IsRun c old.faults new.faults steps) (IsLazy c old.fills new.fills steps) names (heard_by bytes r) input input' before after r
-  pub told : (t : LabelledTree) → c.IsDocument t → EndsOn c.roots t names (heard_by bytes r) before.written after.written r
+  pub told : (f : Finished) → c.IsDocument f.tree → IsRight c.NamesAt f (steps_in (heard_by bytes r)) → EndsOn c.roots c.NamesAt f names (heard_by bytes r) before.written after.written r

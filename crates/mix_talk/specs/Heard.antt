@@ -2,6 +2,7 @@
 use Rattle.std.specs.Prelude.{ℕ, Bool, false, cond, nat_lt, ◌==◌, ◌||◌, List, [], ◌∷◌, ◌++◌, Option, Some, None, length, map}
 use Rattle.mix_words.specs.Lines.{lines_of}
 use Rattle.mix_script.specs.Steps.{line_steps, steps_read}
+use Rattle.mix_script.specs.declared.step.Forms.TheVariants.{WithIds}
 use Rattle.mix_script.specs.declared.step.LineRead.{LineRead}
 use Rattle.mix_script.specs.declared.step.Step.{Step}
 
@@ -15,9 +16,9 @@ abbrev pub asked : Option (List Step) → List Heard
 asked None = no_form ∷ []
 asked (Some steps) = map step steps
 
--- what a line asks for: one of more than 1,048,576 bytes is of no form
+-- what a line asks for, which may have any form: one of more than 1,048,576 bytes is of no form
 abbrev pub line_asks : List ℕ → List Heard
-line_asks line = asked (cond (nat_lt 1048576 (length line)) None (line_steps line))
+line_asks line = asked (cond (nat_lt 1048576 (length line)) None (line_steps WithIds line))
 
 -- what several lines ask for, one after another
 abbrev pub lines_ask : List (List ℕ) → List Heard

@@ -1,9 +1,8 @@
 -- The lines that answer what was heard.
-use Rattle.std.specs.Prelude.{ℕ, List, [], ◌∷◌, ◌++◌, Option, codes}
-use Rattle.mix_tree.specs.Forest.{LabelledTree}
+use Rattle.std.specs.Prelude.{ℕ, List, [], ◌∷◌, ◌++◌, codes}
 use Rattle.mix_script.specs.Names.{no_names}
 use Rattle.mix_script.specs.Answers.{line_of}
-use Rattle.mix_script.specs.Transcript.{Names, answered, first_mark, later_marks}
+use Rattle.mix_script.specs.Transcript.{Finished, Names, Note, answered, first_note, later_notes}
 use Rattle.mix_script.specs.declared.answer.Answer.{Answer}
 use Rattle.mix_talk.specs.Heard.{Heard, step, no_form}
 
@@ -18,14 +17,14 @@ spoken names (no_form ∷ heard) answers = no_form_line ++ spoken names heard an
 spoken names (step s ∷ heard) [] = []
 spoken names (step s ∷ heard) (a ∷ answers) = line_of names s.client a ++ spoken names heard answers
 
--- the lines that answer what was heard on a tree, where names hold given places before it
-abbrev pub spoken_from : LabelledTree → List (List ℕ) → Names → List (Option ℕ) → List Heard → List ℕ
-spoken_from t sources names marks [] = []
-spoken_from t sources names marks (no_form ∷ heard) = no_form_line ++ spoken_from t sources names marks heard
-spoken_from t sources names marks (step s ∷ heard) =
-    let now = answered t names (first_mark marks) s in
-    line_of sources s.client now.0 ++ spoken_from t sources now.1 (later_marks marks) heard
+-- the lines that answer what was heard on a finished document, where names hold given places before it
+abbrev pub spoken_from : Finished → List (List ℕ) → Names → List Note → List Heard → List ℕ
+spoken_from f sources names notes [] = []
+spoken_from f sources names notes (no_form ∷ heard) = no_form_line ++ spoken_from f sources names notes heard
+spoken_from f sources names notes (step s ∷ heard) =
+    let now = answered f names (first_note notes) s in
+    line_of sources s.client now.0 ++ spoken_from f sources now.1 (later_notes notes) heard
 
 -- the transcript of what was heard: that of its steps, with a line of its own for what has no form
-abbrev pub talk_transcript : LabelledTree → List (List ℕ) → List (Option ℕ) → List Heard → List ℕ
-talk_transcript t sources marks heard = spoken_from t sources no_names marks heard
+abbrev pub talk_transcript : Finished → List (List ℕ) → List Note → List Heard → List ℕ
+talk_transcript f sources notes heard = spoken_from f sources no_names notes heard

@@ -7,7 +7,7 @@ ghost use Rattle.mix_talk.specs.Reading.{IsLine, IsPart, IsReaderOf, Moved, Read
 
 use crate::page::Page;
 use mix_io::{Input, TakeFault};
-use mix_script::{LineRead, read_line};
+use mix_script::{Forms, LineRead, read_line};
 use mix_words::lines::cut_lines;
 use std::alloc::{AllocError, Global};
 
@@ -60,7 +60,7 @@ fn read_whole_line(alloc: Global, line: &[u8]) -> Result<Option<LineRead>, Alloc
 {
     let lines = cut_lines(alloc, line)?;
     match lines.as_slice() {
-        [line] if line.len() <= LINE_LIMIT => Ok(Some(read_line(alloc, line)?)),
+        [line] if line.len() <= LINE_LIMIT => Ok(Some(read_line(alloc, line, Forms::WithIds)?)),
         [_] => Ok(Some(LineRead::NoForm)),
         _ => Ok(None),
     }

@@ -3,7 +3,7 @@ ghost use Rattle.std.specs.Prelude.{◌≡◌, ◌<◌, ◌≤◌, ℕ, length};
 ghost use Rattle.mix_io.specs.Input.{InputView};
 ghost use Rattle.mix_io.specs.Views.{SinkView};
 ghost use Rattle.lxp_core.specs.View.{View};
-ghost use Rattle.lazy_value.specs.Mediators as mediator;
+ghost use Rattle.lazy_value.specs.Named as mediator;
 ghost use Rattle.mix_script.specs.Names.{held};
 ghost use Rattle.mix_session.specs.Held.{IsSession};
 ghost use Rattle.mix_session.specs.Meaning.{Course, Meaning};
@@ -39,6 +39,7 @@ fn answer_read<W: Walker + Drop, S: Sources, K: Sink>(
 ) -> Result<bool, LinesFault>
     requires session { IsSession (W.means (S.view s.old) session.old.walker) (held session.old.names) }
     requires names { (n : ℕ) → (W.means (S.view s.old) session.old.walker).course.MayFail n → n < length asked.now.names.now }
+    requires lets { let c = (W.means (S.view s.old) session.old.walker).course in c.Tells × c.Follows }
     ensures came { S.came_from s.old s.new }
     ensures answered { IsReadAnswered s.old s.new session.old session.new S.view (λ s session. W.means (S.view s) session.walker)
         (λ session. held session.names) asked.now.names.now asked.now.read (K.view out.old) (K.view out.new) result }
@@ -67,6 +68,7 @@ fn talk<W: Walker + Drop, S: Sources, I: Input, K: Sink>(
 ) -> Result<bool, TalkFault>
     requires ready { (W.means (S.view s.old) walker).IsReady }
     requires names { (n : ℕ) → (W.means (S.view s.old) walker).course.MayFail n → n < length names.now }
+    requires lets { let c = (W.means (S.view s.old) walker).course in c.Tells × c.Follows }
     ensures came { S.came_from s.old s.new }
     ensures ends { let c = (W.means (S.view s.old) walker).course in
         TalkEnds c (S.view s.old) (S.view s.new) names.now (I.view streams.old.input) (I.view streams.new.input)
@@ -89,8 +91,8 @@ fn talk<W: Walker + Drop, S: Sources, I: Input, K: Sink>(
 }
 
 /// Answers the lines of an input on the document of a mediator's plan, each by one write before more is taken; `names` has the
-/// sources' names by their numbers. True: a fault line was written. Lines are those of a script; one of no form is answered `no form`
-/// and changes nothing (docs/FORMATS.md, "Talks").
+/// sources' names by their numbers. True: a fault line was written. Lines are those of a script, which may write identifiers down and
+/// follow them; one of no form is answered `no form` and changes nothing (docs/FORMATS.md, "Talks").
 ///
 /// `InputFailed`: the input failed; all whole lines that were taken of it before are answered. `SinkFailed`: the sink failed. After it, and
 /// where memory ran out, whole lines were written and at most a prefix of the next.
@@ -103,6 +105,7 @@ pub fn talk_lines<S: Sources, I: Input, K: Sink>(
 ) -> Result<bool, TalkFault>
     requires mediator { mediator.IsMediatorOf (S.view s.old) m }
     requires names { length names.now ≡ (S.view s.old).count }
+    requires lets { let c = plan_course (mediator.state_of (S.view s.old) m) in c.Tells × c.Follows }
     ensures came { S.came_from s.old s.new }
     ensures ends { let c = plan_course (mediator.state_of (S.view s.old) m) in
         TalkEnds c (S.view s.old) (S.view s.new) names.now (I.view streams.old.input) (I.view streams.new.input)

@@ -3,9 +3,11 @@ use Rattle.std.proofs.Common.{◌≡◌, ◌∙◌, ℕ, ◌+◌, Bool, false, c
 use Rattle.mix_tree.specs.Forest.{LabelledTree, none}
 use Rattle.bracket_text.specs.Canonical.{canon}
 use Rattle.mix_script.specs.Answers.{line_of}
-use Rattle.mix_script.specs.Allowed.{Nodes, MayFind, MayRead, MayPrint, WhereHeld, MayAnswer, nodes_after, AreAnswers, answer_lines, mark_of, is_fault, has_fault, is_mark_of, faults_of}
+use Rattle.node_text.specs.Grammar.{Spells}
+use Rattle.node_text.specs.Node.{node}
+use Rattle.mix_script.specs.Allowed.{Nodes, MayFind, MayFollow, MayRead, MayPrint, MaySpell, WhereHeld, MayAnswer, nodes_after, AreAnswers, answer_lines, mark_of, is_fault, has_fault, is_mark_of, faults_of}
 use Rattle.mix_script.specs.declared.step.Act.{Act}
-use Rattle.mix_script.specs.declared.step.Act.TheVariants.{Root, Move, Select, Fetch, Print}
+use Rattle.mix_script.specs.declared.step.Act.TheVariants.{Root, Move, Select, Fetch, Print, Id, At}
 use Rattle.mix_script.specs.declared.step.Step.{Step}
 use Rattle.mix_script.specs.declared.answer.Answer.{Answer}
 use Rattle.mix_script.specs.declared.answer.Answer.TheVariants as answer
@@ -19,13 +21,19 @@ abbrev or_no_node : Option (Unit {0}) → Answer → Answer
 or_no_node None a = answer.NoNode
 or_no_node (Some node) a = a
 
--- the answer to an act that is no fault: a node for the root, and else none or no node
+-- a minus sign is the text of the root
+root_spelled : Spells (45 ∷ []) (node [] [])
+root_spelled = record { formed = record { root = λ e. refl; places = tt }; small = record { levels = tt; inside = tt }; text = refl }
+
+-- the answer to an act that is no fault: a node for the root, the text of the root for an identifier, and else none or no node
 abbrev any_answer : Nodes → List ℕ → Act → Answer
 any_answer nodes client (Root name) = answer.Node
 any_answer nodes client (Move way name from) = or_no_node (nodes client from) answer.None
 any_answer nodes client (Select name from label) = or_no_node (nodes client from) answer.None
 any_answer nodes client (Fetch from) = or_no_node (nodes client from) (answer.Label [])
 any_answer nodes client (Print from) = or_no_node (nodes client from) (answer.Text (canon (record { label = []; kids = none })))
+any_answer nodes client (Id from) = or_no_node (nodes client from) (answer.Id (45 ∷ []))
+any_answer nodes client (At name d) = answer.Foreign
 
 -- an answer with a property has it where the name holds a node, and where it holds none the answer is no node
 held_any : (P : Answer → Type 0) (a : Answer) → P a → (o : Option (Unit {0})) → WhereHeld o P (or_no_node o a)
@@ -44,6 +52,8 @@ any_unmarked nodes client (Move way name from) = held_unmarked answer.None refl 
 any_unmarked nodes client (Select name from label) = held_unmarked answer.None refl (nodes client from)
 any_unmarked nodes client (Fetch from) = held_unmarked (answer.Label []) refl (nodes client from)
 any_unmarked nodes client (Print from) = held_unmarked (answer.Text (canon (record { label = []; kids = none }))) refl (nodes client from)
+any_unmarked nodes client (Id from) = held_unmarked (answer.Id (45 ∷ [])) refl (nodes client from)
+any_unmarked nodes client (At name d) = refl
 
 module _ (May : ℕ → Type 0) (names : List (List ℕ)) where
   -- an act may be answered by the answer without a fault
@@ -55,6 +65,8 @@ module _ (May : ℕ → Type 0) (names : List (List ℕ)) where
   any_may nodes client (Print from) =
       let t : LabelledTree = record { label = []; kids = none } in
       held_any (MayPrint May) (answer.Text (canon t)) (t, refl) (nodes client from)
+  any_may nodes client (Id from) = held_any MaySpell (answer.Id (45 ∷ [])) (node [] [], root_spelled) (nodes client from)
+  any_may nodes client (At name d) = tt
 
   -- with more answers, none of them a fault, all steps are answered
   pub record IsCompleted (nodes : Nodes) (answers : List Answer) (steps : List Step) (more : List Answer) : Type 0 where
@@ -123,6 +135,8 @@ module _ (May Real : ℕ → Type 0) where
   find_may (answer.Text x) w h = h
   find_may answer.NoNode w h = h
   find_may (answer.Fault s) w h = w s refl h
+  find_may (answer.Id x) w h = h
+  find_may answer.Foreign w h = h
 
   -- an answer to a print that may be under one property of sources may be under another, where a fault of a source with the first has the second
   print_may : (a : Answer) → ((s : ℕ) → mark_of a ≡ Some s → May s → Real s) → MayPrint May a → MayPrint Real a
@@ -132,6 +146,19 @@ module _ (May Real : ℕ → Type 0) where
   print_may (answer.Text x) w h = h
   print_may answer.NoNode w h = h
   print_may (answer.Fault s) w h = w s refl h
+  print_may (answer.Id x) w h = h
+  print_may answer.Foreign w h = h
+
+  -- an answer where a text is followed that may be under one property of sources may be under another, where a fault of a source with the first has the second
+  follow_may : (a : Answer) → ((s : ℕ) → mark_of a ≡ Some s → May s → Real s) → MayFollow May a → MayFollow Real a
+  follow_may answer.Node w h = h
+  follow_may answer.None w h = h
+  follow_may (answer.Label l) w h = h
+  follow_may (answer.Text x) w h = h
+  follow_may answer.NoNode w h = h
+  follow_may (answer.Fault s) w h = w s refl h
+  follow_may (answer.Id x) w h = h
+  follow_may answer.Foreign w h = h
 
   -- where one property of an answer gives another, an answer with the one where a name holds a node is one with the other
   held_may : (P Q : Answer → Type 0) (a : Answer) → (P a → Q a) → (o : Option (Unit {0})) → WhereHeld o P a → WhereHeld o Q a
@@ -146,6 +173,8 @@ module _ (May Real : ℕ → Type 0) where
   answer_may nodes client (Select name from label) a w h = held_may (MayFind May) (MayFind Real) a (find_may a w) (nodes client from) h
   answer_may nodes client (Fetch from) a w h = h
   answer_may nodes client (Print from) a w h = held_may (MayPrint May) (MayPrint Real) a (print_may a w) (nodes client from) h
+  answer_may nodes client (Id from) a w h = h
+  answer_may nodes client (At name d) a w h = follow_may a w h
 
   -- answers may be given by a property of sources that each source with a fault among them has
   pub answers_may : (nodes : Nodes) (answers : List Answer) (steps : List Step) → ((s : ℕ) → May s → (faults_of s answers ≡ 0 → ⊥) → Real s) → AreAnswers false May nodes answers steps

@@ -43,7 +43,8 @@ module _ (stores stores' : StoresView) (p : Placed) (asked : Asked) (counts : Co
   module _ (before mid after : SinkView) (on : TookOn mid after) where
     -- the lines of a run's answers with those of its counts after them are a run with counts
     with_counts : (status : ℕ) (answers : List ℕ) → Answers before mid status answers → Counted before after status (answers ++ more)
-    with_counts status answers h = (h.0, h.1, (counts.spent.fills, answers, answered_on before mid after on stores stores' (question stores p asked h.0) counts.spent.fills status answers h.2, ap (λ x. answers ++ x) same))
+    with_counts status answers h =
+        (h.0, h.1, h.2, (counts.spent.fills, answers, answered_on before mid after on stores stores' (question stores p asked h.0) counts.spent.fills status answers h.3, ap (λ x. answers ++ x) same))
       where
         same : more ≡ lines_of_counts (record { commands = length asked.steps.items; spent = record { fills = counts.spent.fills; pages = stores'.tables.pages - stores.tables.pages }; class = class_over asked.catalog (plan_value asked.plan).ops })
         same =

@@ -3,7 +3,6 @@ use Rattle.std.proofs.Common.{Some, ◌≡◌, ◌⊎◌, ◌+◌, ◌-◌, ◌^
 use Rattle.std.specs.List.{AllByRecursion}
 use Rattle.std.proofs.lemmas.List.{length-map}
 use Rattle.mix_io.specs.Views.{SinkView}
-use Rattle.mix_tree.specs.Forest.{LabelledTree}
 use Rattle.mix_tree.specs.Nodes.{Documents}
 use Rattle.lxp_core.specs.View.{Keeps, View}
 use Rattle.mix_lines.specs.declared.fault.LinesFault.{LinesFault}
@@ -12,22 +11,23 @@ use Rattle.mix_loop.specs.Loops.{StandIn}
 use Rattle.mix_reach.specs.Stores.{stores_of}
 use Rattle.plan_core.specs.declared.plan.Plan.{Plan}
 use Rattle.plan_core.specs.PlanMade.{plan_value}
-use Rattle.plan_core.specs.Plans.{document}
-use Rattle.plan_core.specs.Events.{visited}
 use Rattle.plan_core.specs.Valid.{HasSource}
-use Rattle.lazy_value.specs.Mediators.{state_of}
+use Rattle.lazy_value.specs.Named.{state_of}
+use Rattle.mix_script.specs.Transcript.{Finished}
 use Rattle.view_stack.specs.Stacks.{Stacking, plans_of, view_of}
 use Rattle.view_stack.specs.Steps.{AreOpen, AsksEach, Bounds}
 use Rattle.mix_place.specs.Plans.{IsPlanOver}
 use Rattle.mix_top.specs.declared.asked.Asked.{Asked}
 use Rattle.mix_top.specs.declared.outcome.Outcome.{Outcome}
+use Rattle.mix_top.specs.Finishing.{IsFinishedOf}
 use Rattle.mix_top.specs.Running.{IsEnd, IsEndOver, IsLinesEnd, LinesOver, all_documents, by_fills, placed_of}
 use Rattle.mix_top.proofs.LinesEnd.{lines_end, lines_unbegun}
 use Rattle.mix_top.proofs.Mounts.{count_names}
 use Rattle.mix_top.proofs.ReadTables.{plan_within}
 use Rattle.mix_top.proofs.Stacked.{over}
 
-module _ (asked : Asked) (valid : IsPlanOver asked.catalog (plan_value asked.plan)) (has : (d : Documents) → (t : LabelledTree) × (document (visited d) (plan_value asked.plan).ops ≡ Some t)) (before : SinkView) where
+module _ (asked : Asked) (valid : IsPlanOver asked.catalog (plan_value asked.plan)) (has : (d : Documents) → (f : Finished) × IsFinishedOf d (plan_value asked.plan).ops asked.steps.items f)
+    (before : SinkView) where
   -- the plan's sources are sources of the catalog
   within : AllByRecursion (HasSource (length asked.catalog)) (plan_value asked.plan).ops
   within = subst (λ (n : ℕ). AllByRecursion (HasSource n) (plan_value asked.plan).ops) (count_names asked.catalog) (plan_within asked.catalog (plan_value asked.plan) valid)
@@ -38,21 +38,21 @@ module _ (asked : Asked) (valid : IsPlanOver asked.catalog (plan_value asked.pla
     pub stack_ends : IsEndOver k.base k'.base (plans_of k.views) asked before after end
     stack_ends files a b place unasked stand few most =
         let found = has (all_documents (stores_of a) (placed_of a (plans_of k.views))) in
-        let t : LabelledTree = found.0 in
+        let f : Finished = found.0 in
         elim h as (λ _. IsLinesEnd (LinesOver (by_fills b.fills) (stores_of a) (stores_of b) (placed_of a (plans_of k.views)) asked) before after end) [
           | inl w ↦ (
               let st = state_of (view_of k) w.mediator in
-              let is = over files a b k k' asked.catalog (plan_value asked.plan).ops place within keeps stand plans asked.steps.items t unasked none_asked lazy most w.mediator w.ops_are found.1 in
+              let is = over files a b k k' asked.catalog (plan_value asked.plan).ops place within keeps stand plans asked.steps.items f unasked none_asked lazy most w.mediator w.ops_are found.1.document in
               subst (λ (r : Result Outcome LinesFault). IsLinesEnd (LinesOver (by_fills b.fills) (stores_of a) (stores_of b) (placed_of a (plans_of k.views)) asked) before after r) (sym w.end_is)
-              (lines_end (view_of k) (view_of k') a b (plans_of k.views) asked st t is few before after found.1 w.result w.ends)
+              (lines_end (view_of k) (view_of k') a b (plans_of k.views) asked st f is few before after found.1 w.result w.ends)
               )
           | inr none ↦ (
               let s = stand.fills in
-              let f : k'.base.fills ≡ k.base.fills = ap (λ (v : View). v.fills) (same_below none.2) in
-              let unasked_still : b.fills ≡ 0 = omega (arith, s, f, unasked) in
+              let same_fills : k'.base.fills ≡ k.base.fills = ap (λ (v : View). v.fills) (same_below none.2) in
+              let unasked_still : b.fills ≡ 0 = omega (arith, s, same_fills, unasked) in
               subst (λ (x : SinkView). IsLinesEnd (LinesOver (by_fills b.fills) (stores_of a) (stores_of b) (placed_of a (plans_of k.views)) asked) before x end) (sym none.1)
               (subst (λ (r : Result Outcome LinesFault). IsLinesEnd (LinesOver (by_fills b.fills) (stores_of a) (stores_of b) (placed_of a (plans_of k.views)) asked) before before r) (sym none.0)
-              (lines_unbegun a b stand.came (plans_of k.views) asked t found.1 unasked_still few before))
+              (lines_unbegun a b stand.came (plans_of k.views) asked f found.1 unasked_still few before))
               )
         ]
 

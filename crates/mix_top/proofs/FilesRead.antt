@@ -52,22 +52,22 @@ module _ (given : PlanFile) (Then : List SourceSpec → List Operator → List �
 module _ (given : PlanFile) (old : FilesView) (file catalog script : List ℕ) where
   -- after the reading of its catalog a run has read only what it may
   pub run_reads_catalog : (new : FilesView) → ReadsOnly catalog old new → ReadsAmong (RunMayRead given old file catalog script) old new
-  run_reads_catalog = reads_catalog given (ScriptMayRead old script) old file catalog
+  run_reads_catalog = reads_catalog given (ScriptMayRead given.forms old script) old file catalog
 
   module _ (sources : List SourceSpec) (cat : IsCatalogFile old catalog sources) where
     -- after the reading of the file that gives its plan a run has read only what it may
     pub run_reads_file : (mid new : FilesView) → ReadsAmong (RunMayRead given old file catalog script) old mid → ReadsOnly file mid new → ReadsAmong (RunMayRead given old file catalog script) old new
-    run_reads_file = reads_view given (ScriptMayRead old script) old file catalog sources cat
+    run_reads_file = reads_view given (ScriptMayRead given.forms old script) old file catalog sources cat
 
     module _ (ops : List Operator) (gives : given.Gives old file sources ops) where
       -- after the reading of its script a run has read only what it may
       pub run_reads_script : (mid new : FilesView) → ReadsAmong (RunMayRead given old file catalog script) old mid → ReadsOnly script mid new → ReadsAmong (RunMayRead given old file catalog script) old new
       run_reads_script mid new before only =
-          reads_then given (ScriptMayRead old script) old file catalog sources cat ops gives mid new before (λ path. path ≡ script) (λ path h. inl h) (λ path no. only path no)
+          reads_then given (ScriptMayRead given.forms old script) old file catalog sources cat ops gives mid new before (λ path. path ≡ script) (λ path h. inl h) (λ path no. only path no)
 
       -- after the reading of its sources' files a run has read only what it may
-      pub run_reads_sources : (mid new : FilesView) (steps : List Step) → IsScript old script steps → KeepsFiles old mid → ReadsAmong (RunMayRead given old file catalog script) old mid
+      pub run_reads_sources : (mid new : FilesView) (steps : List Step) → IsScript given.forms old script steps → KeepsFiles old mid → ReadsAmong (RunMayRead given old file catalog script) old mid
           → ReadsAmong (SourceMayRead mid ops sources) mid new → ReadsAmong (RunMayRead given old file catalog script) old new
       run_reads_sources mid new steps scr keeps before reads =
-          reads_then given (ScriptMayRead old script) old file catalog sources cat ops gives mid new before (SourceMayRead mid ops sources)
+          reads_then given (ScriptMayRead given.forms old script) old file catalog sources cat ops gives mid new before (SourceMayRead mid ops sources)
           (λ path h. inr (steps, scr, place_may_before old mid ops sources keeps path h)) reads

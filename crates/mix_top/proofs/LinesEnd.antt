@@ -3,7 +3,6 @@ use Rattle.std.proofs.Common.{Option, ◌≡◌, ◌∙◌, ◌+◌, ◌≤◌, 
 use Rattle.mix_base.proofs.Lists.{append_nil, take_append}
 use Rattle.mix_io.specs.Views.{FilesView, SinkView}
 use Rattle.mix_io.specs.Contents.{Appends}
-use Rattle.mix_tree.specs.Forest.{LabelledTree}
 use Rattle.mix_reach.specs.Reach.{CameFrom, Reaching, view_of}
 use Rattle.mix_reach.specs.Stores.{stores_of}
 use Rattle.plan_core.specs.PlanMade.{plan_value}
@@ -13,7 +12,7 @@ use Rattle.mix_script.specs.Allowed.{answer_lines, has_fault}
 use Rattle.mix_script.specs.Answers.{line_of}
 use Rattle.mix_script.specs.declared.answer.Answer.{Answer}
 use Rattle.mix_script.specs.declared.step.Step.{Step}
-use Rattle.mix_script.proofs.Finished.{lines_are_transcript, lines_begin_transcript}
+use Rattle.mix_script.specs.Transcript.{Finished}
 use Rattle.mix_lines.specs.Lines.{Ends, EndsBetween, EndsWithin, IsLazy, IsRun, IsWhole}
 use Rattle.mix_lines.specs.declared.fault.LinesFault.{LinesFault}
 use Rattle.mix_lines.specs.declared.fault.LinesFault.TheVariants as lines_fault
@@ -23,7 +22,8 @@ use Rattle.lxp_core.specs.View.{View}
 use Rattle.mix_top.specs.Answered.{IsAnswered, all_told, in_order}
 use Rattle.mix_top.specs.Ends.{TookPrefix}
 use Rattle.mix_top.specs.declared.asked.Asked.{Asked}
-use Rattle.mix_top.specs.Question.{Question, IsPlanDocument}
+use Rattle.mix_top.specs.Finishing.{IsFinishedOf}
+use Rattle.mix_top.specs.Question.{Question, finished, naming}
 use Rattle.mix_place.specs.Placed.{ArePlaced}
 use Rattle.mix_top.specs.Running.{IsLinesEnd, LinesOver, by_fills, all_documents, placed_of, question}
 use Rattle.mix_place.specs.Plans.{IsPlanOver}
@@ -31,6 +31,7 @@ use Rattle.mix_top.proofs.Answering.{Frugal, IsAnswering, IsManner, IsOver, answ
 use Rattle.mix_top.proofs.Sums.{none_counted}
 use Rattle.plan_core.specs.declared.plan.Plan.{Plan}
 use Rattle.mix_top.proofs.Lines.{nothing_of}
+use Rattle.mix_top.proofs.Noting.{lines_all, lines_begin}
 use Rattle.mix_top.proofs.ReadTables.{plan_within}
 use Rattle.mix_top.specs.Stops.{IsDoneAlong, end_of, outcome_of, outcome_status}
 
@@ -55,15 +56,15 @@ outcome_is true answers marks = ap (λ b. cond b 1 0) (sym marks)
 outcome_is false answers marks = ap (λ b. cond b 1 0) (sym marks)
 
 -- the lines of a script's answers are written one after another
-in_order_is_manner : (q : Question) → IsManner (in_order q) q.tree q.steps
+in_order_is_manner : (q : Question) → IsManner (in_order q) q
 in_order_is_manner q = record {
-  begins = λ answers of. lines_begin_transcript q.tree (names_of_sources q.sources) answers q.steps of;
-  all = λ answers of all. lines_are_transcript q.tree (names_of_sources q.sources) answers q.steps of all;
+  begins = λ more answers of. lines_begin (naming q) (finished q) (names_of_sources q.sources) more answers q.steps of;
+  all = λ more answers of all. lines_all (naming q) (finished q) (names_of_sources q.sources) more answers q.steps of all;
   more = λ answers more. lines_more (names_of_sources q.sources) answers more q.steps;
 }
 
-module _ (old new : View) (a b : Reaching) (views : List (Option Plan)) (asked : Asked) (st : BenchState) (t : LabelledTree) (over : IsOver old new st a b (question (stores_of a) (placed_of a views) asked t))
-    (few : b.mounted.tables.pages ≤ a.mounted.tables.pages + b.fills) (before after : SinkView) (is_document : IsPlanDocument (all_documents (stores_of a) (placed_of a views)) (plan_value asked.plan).ops t) where
+module _ (old new : View) (a b : Reaching) (views : List (Option Plan)) (asked : Asked) (st : BenchState) (f : Finished) (over : IsOver old new st a b (question (stores_of a) (placed_of a views) asked f))
+    (few : b.mounted.tables.pages ≤ a.mounted.tables.pages + b.fills) (before after : SinkView) (texts : IsFinishedOf (all_documents (stores_of a) (placed_of a views)) (plan_value asked.plan).ops asked.steps.items f) where
   -- the names of the sources of the catalog
   abbrev names : List (List ℕ)
   names = names_of_sources asked.catalog
@@ -74,7 +75,7 @@ module _ (old new : View) (a b : Reaching) (views : List (Option Plan)) (asked :
 
   -- the question of the run: its script on the document, over the sources
   abbrev q : Question
-  q = question (stores_of a) (placed_of a views) asked t
+  q = question (stores_of a) (placed_of a views) asked f
 
   -- answers that a run on the course of the plan gives
   abbrev Are : List Answer → Type 0
@@ -90,7 +91,7 @@ module _ (old new : View) (a b : Reaching) (views : List (Option Plan)) (asked :
 
   -- the lines of the run, written in the order of the steps, answer the question
   run : IsAnswering (in_order q) old new a b q st before after
-  run = answering (in_order q) old new st a b q over few before after (in_order_is_manner q)
+  run = answering (in_order q) old new st a b q over few before after (in_order_is_manner q) texts
 
   -- where the lines of some answers were written, no more was asked than their tolls
   spent : (answers : List Answer) → Cost answers → Appends before.written after.written (answer_lines names answers steps) → Frugal (in_order q) a b q before after answers
@@ -110,8 +111,8 @@ module _ (old new : View) (a b : Reaching) (views : List (Option Plan)) (asked :
   took : (answers : List Answer) → Are answers → Frugal (in_order q) a b q before after answers → (n : ℕ) → Appends before.written after.written (take n (answer_lines names answers steps))
       → TookPrefix (Answers before after) before after
   took answers are less n h =
-      let f = run.prefix answers are less in
-      (f.status, f.lines, (t, is_document, f.is), prefix_of before.written after.written n (answer_lines names answers steps) f.rest f.lines f.begun h)
+      let p = run.prefix answers are less in
+      (p.status, p.lines, (f, texts.document, texts.named, p.is), prefix_of before.written after.written n (answer_lines names answers steps) p.rest p.lines p.begun h)
 
   -- where the lines ended within a line, a prefix of the lines of answers was written
   within : EndsWithin Are Cost names steps before after → TookPrefix (Answers before after) before after
@@ -126,7 +127,7 @@ module _ (old new : View) (a b : Reaching) (views : List (Option Plan)) (asked :
   -- where all lines were written, the answers are those of a run
   whole : (marked : Bool) → IsWhole Are Cost names steps before after marked → IsDoneAlong Answers before after (outcome_of marked)
   whole marked w =
-      (answer_lines names w.answers steps, (t, is_document, subst Is (outcome_is marked w.answers w.marks) (run.whole w.answers w.are (spent w.answers w.cost w.written) w.all)), w.written)
+      (answer_lines names w.answers steps, (f, texts.document, texts.named, subst Is (outcome_is marked w.answers w.marks) (run.whole w.answers w.are (spent w.answers w.cost w.written) w.all)), w.written)
     where
       Is : ℕ → Type 0
       Is n = IsAnswered (stores_of a) (stores_of b) q b.fills before after n (answer_lines names w.answers steps)
@@ -139,9 +140,10 @@ module _ (old new : View) (a b : Reaching) (views : List (Option Plan)) (asked :
   lines_end (Err lines_fault.OutOfMemory) (inr w) = within w
 
 -- where memory ran out before the first step of a run over sources of which no fill was asked, nothing was written of the run's lines
-pub lines_unbegun : (a b : Reaching) → CameFrom a b → (views : List (Option Plan)) (asked : Asked) (t : LabelledTree) → IsPlanDocument (all_documents (stores_of a) (placed_of a views)) (plan_value asked.plan).ops t → b.fills ≡ 0
+pub lines_unbegun : (a b : Reaching) → CameFrom a b → (views : List (Option Plan)) (asked : Asked) (f : Finished)
+    → IsFinishedOf (all_documents (stores_of a) (placed_of a views)) (plan_value asked.plan).ops asked.steps.items f → b.fills ≡ 0
     → b.mounted.tables.pages ≤ a.mounted.tables.pages + b.fills → (before : SinkView) → IsLinesEnd (LinesOver (by_fills b.fills) (stores_of a) (stores_of b) (placed_of a views) asked) before before (Err lines_fault.OutOfMemory)
-lines_unbegun a b came views asked t is_document none few before =
-    let q = question (stores_of a) (placed_of a views) asked t in
-    let f = unanswered (in_order q) a b q (none_counted a b came q) none few before (in_order_is_manner q) ([], refl) in
-    (f.status, f.lines, (t, is_document, f.is), nothing_of before.written f.lines)
+lines_unbegun a b came views asked f texts none few before =
+    let q = question (stores_of a) (placed_of a views) asked f in
+    let p = unanswered (in_order q) a b q (none_counted a b came q) none few before (in_order_is_manner q) texts ([], refl) in
+    (p.status, p.lines, (f, texts.document, texts.named, p.is), nothing_of before.written p.lines)

@@ -9,7 +9,7 @@ use Rattle.std.proofs.Math.Nat.{mul-le-mul_left, mul_comm}
 use Rattle.std.proofs.lemmas.Option.{same_Some, slice_get_cases, slice_get_within}
 use Rattle.mix_base.specs.Counts.{HasRisenBy}
 use Rattle.mix_io.specs.Views.{FilesView}
-use Rattle.mix_tree.specs.Forest.{Forest, LabelledTree, none}
+use Rattle.mix_tree.specs.Forest.{Forest, none}
 use Rattle.mix_tree.specs.Nodes.{Documents}
 use Rattle.mix_catalog.specs.declared.source.SourceKind.{SourceKind}
 use Rattle.mix_catalog.specs.declared.source.SourceKind.TheVariants.{Bracket, Csv, Table, Remote, Json, View as ViewFile}
@@ -37,8 +37,11 @@ use Rattle.lazy_plan.specs.Bench.{BenchState, ops_of, documents}
 use Rattle.lazy_plan.specs.Bench as bench
 use Rattle.lazy_binding.specs.Cursors.{IsRead}
 use Rattle.lazy_binding.specs.World.{reads}
+use Rattle.lazy_walk.specs.declared.walk.Walk.{Walk}
+use Rattle.lazy_walk.specs.Walks.{plan_of, state_of as walk_state}
 use Rattle.lazy_value.specs.declared.mediator.Mediator.{Mediator}
-use Rattle.lazy_value.specs.Mediators.{state_of, plan_of}
+use Rattle.lazy_value.specs.Named.{state_of}
+use Rattle.mix_script.specs.Transcript.{Finished}
 use Rattle.mix_script.specs.declared.step.Step.{Step}
 use Rattle.mix_session.specs.Walks.{IsDocument}
 use Rattle.view_class.specs.Reads.{reads_source}
@@ -57,26 +60,26 @@ use Rattle.mix_top.proofs.ReadTables.{all_pass, is_read, plan_within, read_below
 use Rattle.mix_top.proofs.SourceFaults.{spec_failed}
 use Rattle.mix_top.proofs.Sums.{RoseAtLeast, names_read, rose_at_least, spec_grows, stopped_rose, sums_rose}
 
--- the operators of a mediator's plan, where there is a mediator
-abbrev mediator_ops : Option Mediator → Option (List Operator)
-mediator_ops view = view_ops (option_map plan_of view)
+-- the operators of a walk's plan, where there is a walk
+abbrev walk_ops : Option Walk → Option (List Operator)
+walk_ops view = view_ops (option_map plan_of view)
 
 -- the operators of the plans of views, by their places
-lower_is : (views : List (Option Mediator)) (i : ℕ) → lower_at (lower_of (plans_of views)) i ≡ mediator_ops (view_at views i)
+lower_is : (views : List (Option Walk)) (i : ℕ) → lower_at (lower_of (plans_of views)) i ≡ walk_ops (view_at views i)
 lower_is [] zero = refl
 lower_is [] (suc i) = refl
 lower_is (view ∷ views) zero = refl
 lower_is (view ∷ views) (suc i) = lower_is views i
 
 -- a view that is mounted is one of the views
-inside : (views : List (Option Mediator)) (i : ℕ) (m : Mediator) → view_at views i ≡ Some m → i < length views
+inside : (views : List (Option Walk)) (i : ℕ) (m : Walk) → view_at views i ≡ Some m → i < length views
 inside [] zero m e = absurd (let z : None ≡ Some m = e in cc)
 inside [] (suc i) m e = absurd (let z : None ≡ Some m = e in cc)
 inside (view ∷ views) zero m e = omega arith
 inside (view ∷ views) (suc i) m e = (let h = inside views i m e in omega (arith, h))
 
--- a mediator's plan has operators, and no other view has
-some_ops : (view : Option Mediator) (ops : List Operator) → mediator_ops view ≡ Some ops → (m : Mediator) × (view ≡ Some m) × ((plan_value (plan_of m)).ops ≡ ops)
+-- a walk's plan has operators, and no other view has
+some_ops : (view : Option Walk) (ops : List Operator) → walk_ops view ≡ Some ops → (m : Walk) × (view ≡ Some m) × ((plan_value (plan_of m)).ops ≡ ops)
 some_ops None ops e = absurd (let z : None ≡ Some ops = e in cc)
 some_ops (Some m) ops e = (m, refl, same_Some (plan_value (plan_of m)).ops ops e)
 
@@ -133,7 +136,7 @@ module _ (files : FilesView) (a b : Reaching) (k k' : Stacking) (sources : List 
   counted' = keeps.count ∙ counted
 
   -- a view of the later state has the plan of the same view of the earlier one
-  still : (i : ℕ) → mediator_ops (view_at k'.views i) ≡ mediator_ops (view_at k.views i)
+  still : (i : ℕ) → walk_ops (view_at k'.views i) ≡ walk_ops (view_at k.views i)
   still i = sym (lower_is k'.views i) ∙ ap (λ (p : List (Option Plan)). lower_at (lower_of p) i) plans ∙ lower_is k.views i
 
   -- THE DOCUMENTS
@@ -143,22 +146,22 @@ module _ (files : FilesView) (a b : Reaching) (k k' : Stacking) (sources : List 
   documents_below = fun_ext (λ s. documents_told k.base a views stand.tells s)
 
   -- the document of a view over the sources below
-  abbrev by_view : Option Mediator → Forest
+  abbrev by_view : Option Walk → Forest
   by_view None = none
   by_view (Some m) = tree_alone (document (visited (given_documents k.base)) (plan_value (plan_of m)).ops)
 
   -- the document of a view of the stack is that of its plan over the sources below
-  view_is : (r : Option Mediator) → forest k.base k.served r (hole_of Whole) ≡ by_view r
+  view_is : (r : Option Walk) → forest k.base k.served r (hole_of Whole) ≡ by_view r
   view_is None = refl
   view_is (Some m) = refl
 
   -- the document of a view over the sources below is that of its operators over the sources that are no views
-  by_lower : (r : Option Mediator) → by_view r ≡ lower_document D (mediator_ops r)
+  by_lower : (r : Option Walk) → by_view r ≡ lower_document D (walk_ops r)
   by_lower None = refl
   by_lower (Some m) = ap (λ (d : Documents). tree_alone (document (visited d) (plan_value (plan_of m)).ops)) documents_below
 
   -- of no view there is no document, whatever is tested
-  or_none : (r : Option Mediator) (t : Bool) → (t ≡ false → r ≡ None) → cond t (by_view r) none ≡ by_view r
+  or_none : (r : Option Walk) (t : Bool) → (t ≡ false → r ≡ None) → cond t (by_view r) none ≡ by_view r
   or_none r true h = refl
   or_none r false h = ap by_view (sym (h refl))
 
@@ -199,7 +202,7 @@ module _ (files : FilesView) (a b : Reaching) (k k' : Stacking) (sources : List 
   -- WHAT IS READ
 
   -- the plan of a view, by its place
-  plan_at : (vs : List (Option Mediator)) (i : ℕ) → get_or (plans_of vs) i None ≡ option_map plan_of (view_at vs i)
+  plan_at : (vs : List (Option Walk)) (i : ℕ) → get_or (plans_of vs) i None ≡ option_map plan_of (view_at vs i)
   plan_at [] zero = refl
   plan_at [] (suc i) = refl
   plan_at (v ∷ vs) zero = refl
@@ -247,21 +250,21 @@ module _ (files : FilesView) (a b : Reaching) (k k' : Stacking) (sources : List 
   )
 
   -- a view that the plan reads is mounted
-  mounted_view : (i : ℕ) → i < length views → reads_source ops (view_number sources i) ≡ true → (m : Mediator) × (view_at k.views i ≡ Some m)
+  mounted_view : (i : ℕ) → i < length views → reads_source ops (view_number sources i) ≡ true → (m : Walk) × (view_at k.views i ≡ Some m)
   mounted_view i less read =
       let spec = spec_of i less in
       let own = place.lower.0.each i spec.0 (let l = length-map views view_ops in omega (arith, less, l)) spec.1 in
-      let at : lower_at lower i ≡ mediator_ops (view_at k.views i) = lower_is k.views i in
+      let at : lower_at lower i ≡ walk_ops (view_at k.views i) = lower_is k.views i in
       so (view_at k.views i) (subst (λ (r : Option (List Operator)). IsLower files (names_of_sources base) spec.0 (reads_source ops (view_number sources i)) r) at own)
     where
-      so : (r : Option Mediator) → IsLower files (names_of_sources base) (spec_of i less).0 (reads_source ops (view_number sources i)) (mediator_ops r) → (m : Mediator) × (r ≡ Some m)
+      so : (r : Option Walk) → IsLower files (names_of_sources base) (spec_of i less).0 (reads_source ops (view_number sources i)) (walk_ops r) → (m : Walk) × (r ≡ Some m)
       so None is = absurd (let z : true ≡ false = sym read ∙ is in cc)
       so (Some m) is = (m, refl)
 
-  module _ (steps : List Step) (t : LabelledTree) where
+  module _ (steps : List Step) (f : Finished) where
     -- what is asked
     abbrev q : Question
-    q = question_of (stores_of a) (placed_of a views) sources ops steps t
+    q = question_of (stores_of a) (placed_of a views) sources ops steps f
 
     module _ (all : is_told (stores_of a) q ≡ true) where
       -- a source below that is needed is told and forward
@@ -278,10 +281,10 @@ module _ (files : FilesView) (a b : Reaching) (k k' : Stacking) (sources : List 
       )
 
       -- a view that is mounted is told and forward
-      view_open : (i : ℕ) (m : Mediator) → view_at k.views i ≡ Some m → (view_told k.base (view_at k.views i) ≡ true) × (is_forward k.base (view_at k.views i) ≡ true)
+      view_open : (i : ℕ) (m : Walk) → view_at k.views i ≡ Some m → (view_told k.base (view_at k.views i) ≡ true) × (is_forward k.base (view_at k.views i) ≡ true)
       view_open i m e =
           let h = opens i (plan_of m) (plan_at k.views i ∙ ap (option_map plan_of) e) in
-          (ap (view_told k.base) e ∙ h.0, ap (is_forward k.base) e ∙ both (bench.told (state_of k.base m)) (bench.forward (state_of k.base m)) h.0 h.1)
+          (ap (view_told k.base) e ∙ h.0, ap (is_forward k.base) e ∙ both (bench.told (walk_state k.base m)) (bench.forward (walk_state k.base m)) h.0 h.1)
         where
           both : (x y : Bool) → x ≡ true → y ≡ true → (x && y) ≡ true
           both true true p r = refl
@@ -466,7 +469,7 @@ module _ (files : FilesView) (a b : Reaching) (k k' : Stacking) (sources : List 
           so (inr h) = (let own = own_multiple most asked cheap.one in omega (arith, h, own, less, most_fills))
 
       -- the stack is to what is asked what sources have to be that are walked
-      pub over : (m : Mediator) → ops_of (state_of (view_of k) m) ≡ ops → IsPlanDocument (all_documents (stores_of a) (placed_of a views)) ops t → IsOver (view_of k) (view_of k') (state_of (view_of k) m) a b q
+      pub over : (m : Mediator) → ops_of (state_of (view_of k) m) ≡ ops → IsPlanDocument (all_documents (stores_of a) (placed_of a views)) ops f.tree → IsOver (view_of k) (view_of k') (state_of (view_of k) m) a b q
       over m is document_is =
           let docs : documents (state_of (view_of k) m) ≡ all_documents (stores_of a) (placed_of a views) = fun_ext documents_all in
           record {
@@ -475,8 +478,8 @@ module _ (files : FilesView) (a b : Reaching) (k k' : Stacking) (sources : List 
             told = λ all. (
               (
                 subst (λ (o : List Operator). list_all (reads (view_of k).told) o ≡ true) (sym is) (all_pass (view_of k).told ops (λ s read. (read_open all s read).0)),
-                subst (λ (d : Documents). document (visited d) (ops_of (state_of (view_of k) m)) ≡ Some t) (sym docs)
-                    (subst (λ (o : List Operator). document (visited (all_documents (stores_of a) (placed_of a views))) o ≡ Some t) (sym is) document_is),
+                subst (λ (d : Documents). document (visited d) (ops_of (state_of (view_of k) m)) ≡ Some f.tree) (sym docs)
+                    (subst (λ (o : List Operator). document (visited (all_documents (stores_of a) (placed_of a views))) o ≡ Some f.tree) (sym is) document_is),
               ),
               subst (λ (o : List Operator). list_all (reads (view_of k).forward) o ≡ true) (sym is) (all_pass (view_of k).forward ops (λ s read. (read_open all s read).1)),
             );

@@ -1,5 +1,5 @@
 -- Where a plan reads no table and no source of another machine, the lines are the transcript without marks.
-use Rattle.std.proofs.Common.{◌≡◌, ◌∙◌, ◌+◌, ◌||◌, inl, inr, not, ℕ, suc, Bool, true, false, cond, is_some, List, [], ◌∷◌, ◌++◌, Option, Some, None, refl, ap, subst, arith, slice_get}
+use Rattle.std.proofs.Common.{◌≡◌, ◌∙◌, ◌+◌, ◌||◌, IsTrue, inl, inr, not, ℕ, suc, Bool, true, false, cond, is_some, List, [], ◌∷◌, ◌++◌, Option, Some, None, refl, ap, subst, arith, slice_get}
 use Rattle.std.specs.Prelude.{option_and_then}
 use Rattle.mix_base.proofs.Choices.{and_both}
 use Rattle.mix_tree.specs.Forest.{LabelledTree, alone}
@@ -11,21 +11,23 @@ use Rattle.table_keep.specs.Views.{Declared}
 use Rattle.table_wrap.specs.Document.{declared_in}
 use Rattle.mix_script.specs.Names.{no_names}
 use Rattle.mix_script.specs.Answers.{line_of}
-use Rattle.mix_script.specs.Allowed.{mark_of, marks_of, has_fault}
-use Rattle.mix_script.specs.Transcript.{Names, answer_of, answered, goal_of, if_held, label_answer, lines_from, move_answer, text_answer}
+use Rattle.mix_script.specs.Allowed.{mark_of, note_of, notes_of, has_fault}
+use Rattle.mix_script.specs.Steps.{ArePlain, is_plain}
+use Rattle.mix_script.specs.Transcript.{AreNotes, Finished, IsTextFor, MayBeNoted, Names, Naming, Note, answer_of, answered, failed, first_note, goal_of, if_held, label_answer, later_notes, lines_from, move_answer, named_answer, nothing, spelled, text_answer, unnamed}
 use Rattle.mix_script.specs.declared.step.Act.{Act}
-use Rattle.mix_script.specs.declared.step.Act.TheVariants.{Root, Move, Select, Fetch, Print}
+use Rattle.mix_script.specs.declared.step.Act.TheVariants.{Root, Move, Select, Fetch, Print, Id, At}
 use Rattle.mix_script.specs.declared.step.Step.{Step}
 use Rattle.mix_script.specs.declared.answer.Answer.{Answer}
 use Rattle.mix_script.specs.declared.answer.Answer.TheVariants as answer
 use Rattle.mix_script.proofs.Answering.{unmarked}
 use Rattle.plan_core.specs.Plans.{Operator}
 use Rattle.xmas_read.specs.Results.{names_of_sources}
-use Rattle.mix_top.specs.Answered.{MayFail, RunsWithoutTablesAreUnmarked, all_told, is_far_told, is_spec_told, is_table_told, told_from}
+use Rattle.mix_top.specs.Answered.{IsNoFault, MayFail, RunsWithoutTablesAreUnmarked, all_told, is_far_told, is_spec_told, is_table_told, told_from}
 use Rattle.mix_place.specs.Documents.{far_in}
 use Rattle.mix_place.proofs.SourceKinds.{each_is_one, file_is_apart, view_is_apart}
 use Rattle.view_class.specs.Reads.{reads_source}
-use Rattle.std.specs.List.{list_any}
+use Rattle.std.specs.List.{AllByRecursion, list_any}
+use Rattle.mix_top.specs.Question.{finished, naming}
 use Rattle.std.proofs.lemmas.Bool.{or_left}
 use Rattle.mix_place.specs.Views.{needs, reads_lower}
 
@@ -49,13 +51,20 @@ text_quiet : (o : Option LabelledTree) → mark_of (text_answer o) ≡ None
 text_quiet None = refl
 text_quiet (Some t) = refl
 
--- an answer of a tree without a mark is no fault
-quiet : (t : LabelledTree) (names : Names) (client : List ℕ) (act : Act) → mark_of (answer_of t names None client act) ≡ None
-quiet t names client (Root name) = refl
-quiet t names client (Move way name from) = held_quiet (names client from) _ (move_quiet t (goal_of t names client (Move way name from)))
-quiet t names client (Select name from label) = held_quiet (names client from) _ (move_quiet t (goal_of t names client (Select name from label)))
-quiet t names client (Fetch from) = label_quiet (option_and_then (tree_at t) (names client from))
-quiet t names client (Print from) = held_quiet (names client from) _ (text_quiet (option_and_then (tree_at t) (names client from)))
+-- the answer where a text is followed marks no source
+named_quiet : (o : Option (List ℕ)) → mark_of (named_answer o) ≡ None
+named_quiet None = refl
+named_quiet (Some place) = refl
+
+-- an answer of a finished document without a note is no fault
+quiet : (f : Finished) (names : Names) (client : List ℕ) (act : Act) → mark_of (answer_of f names nothing client act) ≡ None
+quiet f names client (Root name) = refl
+quiet f names client (Move way name from) = held_quiet (names client from) _ (move_quiet f.tree (goal_of f names client (Move way name from)))
+quiet f names client (Select name from label) = held_quiet (names client from) _ (move_quiet f.tree (goal_of f names client (Select name from label)))
+quiet f names client (Fetch from) = label_quiet (option_and_then (tree_at f.tree) (names client from))
+quiet f names client (Print from) = held_quiet (names client from) _ (text_quiet (option_and_then (tree_at f.tree) (names client from)))
+quiet f names client (Id from) = held_quiet (names client from) _ refl
+quiet f names client (At name node) = named_quiet (f.named node)
 
 -- the line of an answer that is no fault names no source
 same_line : (sources : List (List ℕ)) (client : List ℕ) (a : Answer) → mark_of a ≡ None → line_of sources client a ≡ line_of [] client a
@@ -65,31 +74,80 @@ same_line sources client (answer.Label l) e = refl
 same_line sources client (answer.Text x) e = refl
 same_line sources client answer.NoNode e = refl
 same_line sources client (answer.Fault s) e = cc
+same_line sources client (answer.Id x) e = refl
+same_line sources client answer.Foreign e = refl
 
 -- neither the first answer nor a later one is a fault
 no_mark : (mark : Option ℕ) (more : Bool) → is_some mark || more ≡ false → (mark ≡ None) × (more ≡ false)
 no_mark None more e = (refl, e)
 no_mark (Some source) more e = absurd (let z : true ≡ false = e in cc)
 
-module _ (t : LabelledTree) (sources : List (List ℕ)) where
-  -- lines without marks name no source
-  unnamed : (names : Names) (steps : List Step) → lines_from t sources names [] steps ≡ lines_from t [] names [] steps
-  unnamed names [] = refl
-  unnamed names (step ∷ steps) =
-      let now = answered t names None step in
-      ap (λ l. l ++ lines_from t sources now.1 [] steps) (same_line sources step.client now.0 (quiet t names step.client step.act))
-      ∙ ap (λ r. line_of [] step.client now.0 ++ r) (unnamed now.1 steps)
+-- notes that may stand at plain steps of which none is a fault are none at all
+plain_note : (NamesAt : Naming) (names : Names) (step : Step) → IsTrue (is_plain step.act) → (note : Note) → MayBeNoted false NamesAt names step note → IsNoFault note → note ≡ nothing
+plain_note NamesAt names step plain nothing may none = refl
+plain_note NamesAt names step plain (failed s) may none = absurd none
+plain_note NamesAt names step plain (spelled x) may none = absurd (by step.act plain may)
+  where
+    by : (act : Act) → IsTrue (is_plain act) → IsTextFor NamesAt names step.client act x → ⊥
+    by (Root name) p h = h
+    by (Move way name from) p h = h
+    by (Select name from label) p h = h
+    by (Fetch from) p h = h
+    by (Print from) p h = h
+    by (Id from) p h = absurd (let z : false ≡ true = p in cc)
+    by (At name node) p h = h
 
-  -- the lines under the marks of answers without a fault name no source
-  unmarked_transcript : (names : Names) (answers : List Answer) (steps : List Step) → has_fault answers ≡ false → lines_from t sources names (marks_of answers) steps ≡ lines_from t [] names [] steps
-  unmarked_transcript names [] steps h = unnamed names steps
-  unmarked_transcript names (a ∷ answers) [] h = refl
-  unmarked_transcript names (a ∷ answers) (step ∷ steps) h =
-      let both = no_mark (mark_of a) (has_fault answers) h in
-      let now = answered t names None step in
-      ap (λ m. line_of sources step.client (answered t names m step).0 ++ lines_from t sources (answered t names m step).1 (marks_of answers) steps) both.0
-      ∙ ap (λ l. l ++ lines_from t sources now.1 (marks_of answers) steps) (same_line sources step.client now.0 (quiet t names step.client step.act))
-      ∙ ap (λ r. line_of [] step.client now.0 ++ r) (unmarked_transcript now.1 answers steps both.1)
+-- one finished document answers plain steps as another with the same tree
+same_answered : (f : Finished) (names : Names) (note : Note) (step : Step) → IsTrue (is_plain step.act) → answered f names note step ≡ answered (unnamed f.tree) names note step
+same_answered f names note step plain = by step.act plain
+  where
+    by : (act : Act) → IsTrue (is_plain act) → answered f names note (record { client = step.client; act = act }) ≡ answered (unnamed f.tree) names note (record { client = step.client; act = act })
+    by (Root name) p = refl
+    by (Move way name from) p = refl
+    by (Select name from label) p = refl
+    by (Fetch from) p = refl
+    by (Print from) p = refl
+    by (Id from) p = refl
+    by (At name node) p = absurd (let z : false ≡ true = p in cc)
+
+module _ (NamesAt : Naming) (f : Finished) (sources : List (List ℕ)) where
+  -- the lines of plain steps under notes of which none is a fault are those of the tree without notes, and name no source
+  plain_lines : (names : Names) (notes : List Note) (steps : List Step) → ArePlain steps → AreNotes false NamesAt f names notes steps → AllByRecursion IsNoFault notes
+      → lines_from f sources names notes steps ≡ lines_from (unnamed f.tree) [] names [] steps
+  plain_lines names notes [] plain may none = refl
+  plain_lines names notes (step ∷ steps) plain may none =
+      let quiet_note : first_note notes ≡ nothing = plain_note NamesAt names step plain.0 (first_note notes) may.0 (first_of notes none) in
+      let now = answered (unnamed f.tree) names nothing step in
+      let same : answered f names (first_note notes) step ≡ now = ap (λ n. answered f names n step) quiet_note ∙ same_answered f names nothing step plain.0 in
+      let later = plain_lines (answered f names (first_note notes) step).1 (later_notes notes) steps plain.1 may.1 (later_of notes none) in
+      ap (λ r. line_of sources step.client (answered f names (first_note notes) step).0 ++ r) later
+      ∙ ap (λ a. line_of sources step.client a.0 ++ lines_from (unnamed f.tree) [] a.1 [] steps) same
+      ∙ ap (λ l. l ++ lines_from (unnamed f.tree) [] now.1 [] steps) (same_line sources step.client now.0 (quiet (unnamed f.tree) names step.client step.act))
+    where
+      first_of : (notes : List Note) → AllByRecursion IsNoFault notes → IsNoFault (first_note notes)
+      first_of [] all = tt
+      first_of (note ∷ notes) all = all.0
+
+      later_of : (notes : List Note) → AllByRecursion IsNoFault notes → AllByRecursion IsNoFault (later_notes notes)
+      later_of [] all = tt
+      later_of (note ∷ notes) all = all.1
+
+-- answers without a fault show notes without one, and so do others after them
+no_faults : (answers : List Answer) (more : List Note) → has_fault answers ≡ false → AllByRecursion IsNoFault more → AllByRecursion IsNoFault (notes_of answers ++ more)
+no_faults [] more none others = others
+no_faults (a ∷ answers) more none others =
+    let both = no_mark (mark_of a) (has_fault answers) none in
+    (of a both.0, no_faults answers more both.1 others)
+  where
+    of : (a : Answer) → mark_of a ≡ None → IsNoFault (note_of a)
+    of answer.Node e = tt
+    of answer.None e = tt
+    of (answer.Label l) e = tt
+    of (answer.Text x) e = tt
+    of answer.NoNode e = tt
+    of (answer.Fault s) e = absurd (let z : Some s ≡ None = e in cc)
+    of (answer.Id x) e = tt
+    of answer.Foreign e = tt
 
 -- what isn't read, or is no table and at no other machine, has nothing untold
 told_head : (stores : StoresView) (spec : SourceSpec) (b : Bool) → (b ≡ true → (declared_in spec.kind ≡ None) × (far_in spec.kind ≡ None)) → not b || is_spec_told stores spec ≡ true
@@ -137,5 +195,7 @@ without_tables before after q fills sink sink' status lines none is =
     let faultless = unmarked false (MayFail (reads_source q.ops) q.sources) no_names is.answers q.steps is.allowed (λ s may. absurd (none s (wider s may))) in
     let told : all_told before chosen q.sources ≡ true = nothing_untold before chosen 0 q.sources (is_file chosen q.sources none) in (
       is.status_is ∙ ap (λ b. cond b 1 0) faultless,
-      (is.told told).1 ∙ unmarked_transcript q.tree (names_of_sources q.sources) no_names is.answers q.steps faultless,
+      λ plain.
+          let of = is.told told in
+          of.are ∙ plain_lines (naming q) (finished q) (names_of_sources q.sources) no_names (notes_of is.answers ++ of.more) q.steps plain of.allowed (no_faults is.answers of.more faultless of.others),
     )

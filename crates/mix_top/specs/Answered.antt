@@ -1,5 +1,6 @@
 -- What a run comes to whose files are all accepted: the answers to its steps, and its lines.
 use Rattle.std.specs.Prelude.{◌≡◌, ◌⊎◌, ◌≤◌, ◌++◌, ℕ, ◌+◌, ◌*◌, Bool, true, false, ◌&&◌, ◌||◌, not, cond, IsTrue, List, [], ◌∷◌, Option, Some, None, is_some, length, slice_get}
+use Rattle.std.specs.List.{AllByRecursion}
 use Rattle.mix_base.specs.Counts.{HasRisenBy}
 use Rattle.mix_catalog.specs.declared.source.SourceSpec.{SourceSpec}
 use Rattle.mix_catalog.specs.Grammar.{is_view}
@@ -12,15 +13,19 @@ use Rattle.mix_reach.specs.Stores.{StoresView}
 use Rattle.table_keep.specs.Views.{Declared, TablesView}
 use Rattle.table_wrap.specs.Document.{declared_in}
 use Rattle.mix_script.specs.Names.{no_names}
-use Rattle.mix_script.specs.Allowed.{AreAnswers, answer_lines, begun, faults_of, has_fault, marks_of}
-use Rattle.mix_script.specs.Transcript.{transcript, AreMarks, names_after}
+use Rattle.mix_script.specs.Allowed.{AreAnswers, answer_lines, begun, faults_of, has_fault, notes_of, walks_owed}
+use Rattle.mix_script.specs.Steps.{ArePlain}
+use Rattle.mix_script.specs.Transcript.{AreNotes, Note, failed, names_after, nothing, spelled, transcript, unnamed}
 use Rattle.mix_script.specs.declared.answer.Answer.{Answer}
 use Rattle.mix_session.specs.Stepped.{act_toll_by}
+use Rattle.mix_session.specs.Tolls.{toll_from}
 use Rattle.mix_session.specs.Walks.{place_toll}
 use Rattle.plan_core.specs.Plans.{Operator}
+use Rattle.lazy_follow.specs.Marks.{text_reach}
+use Rattle.lazy_walk.specs.Finding.{walk_charge}
 use Rattle.xmas_read.specs.Results.{names_of_sources}
 use Rattle.mix_place.specs.Documents.{far_in}
-use Rattle.mix_top.specs.Question.{AreCheap, Question}
+use Rattle.mix_top.specs.Question.{AreCheap, Question, finished, naming}
 use Rattle.mix_place.specs.Placed.{view_number}
 use Rattle.mix_place.specs.Views.{lower_at, needs}
 use Rattle.view_stack.specs.Stacks.{sum_below}
@@ -105,25 +110,28 @@ all_told stores chosen sources = told_from stores chosen 0 sources
 abbrev pub is_told : StoresView → Question → Bool
 is_told stores q = all_told stores (needs q.ops q.lower) q.sources
 
--- the tolls on the document of a plan of the steps with given answers, and of the next step where there is one
-abbrev pub steps_toll : Question → List Answer → ℕ
-steps_toll q answers = begun (act_toll_by 0 (place_toll q.docs q.ops) q.tree) (names_after q.tree) no_names answers q.steps
+-- what the steps with given answers, and the next step where there is one, may cost on the document of a plan: their tolls, of one that follows a text as far as its
+-- places reach, and what the nodes that texts named may cost beside these
+abbrev pub steps_charge : Question → List Answer → ℕ
+steps_charge q answers =
+    begun (act_toll_by 0 (place_toll q.docs q.ops) text_reach q.tree) (names_after (finished q)) no_names answers q.steps
+    + walks_owed (λ node. toll_from (walk_charge q.docs q.ops) (q.named node)) 0 answers q.steps
 
--- how answers to steps are written: the lines of the first answers, all lines under marks, and when a text begins with the whole lines of given answers
+-- how answers to steps are written: the lines of the first answers, all lines under notes, and when a text begins with the whole lines of given answers
 pub record Manner : Type 1 where
   pub lines_of : List Answer → List ℕ
-  pub under : List (Option ℕ) → List ℕ
+  pub under : List Note → List ℕ
   pub Begin : List Answer → List ℕ → Type 0
 
 -- how the answers to the steps of a script are written: a line each, one after another
 abbrev pub in_order : Question → Manner
 in_order q = record {
   lines_of = λ answers. answer_lines (names_of_sources q.sources) answers q.steps;
-  under = λ marks. transcript q.tree (names_of_sources q.sources) marks q.steps;
+  under = λ notes. transcript (finished q) (names_of_sources q.sources) notes q.steps;
   Begin = λ whole lines. (rest : List ℕ) × (lines ≡ answer_lines (names_of_sources q.sources) whole q.steps ++ rest);
 }
 
--- at most as many fills were asked as the tolls of the steps say that were begun, each as often as a step costs at most in a view that the plan reads: those whose
+-- at most as many fills were asked as the steps may cost that were begun, each as often as a step costs at most in a view that the plan reads: those whose
 -- lines were written whole, and the next one
 pub record IsFrugal (w : Manner) (before after : Option (List ℕ)) (q : Question) (fills : ℕ) (answers : List Answer) : Type 0 where
   pub whole : List Answer
@@ -132,7 +140,21 @@ pub record IsFrugal (w : Manner) (before after : Option (List ℕ)) (q : Questio
   pub lines : List ℕ
   pub begin : w.Begin whole lines
   pub written : Appends before after lines
-  pub cost : (most : ℕ) → AreCheap q most → fills ≤ most * steps_toll q whole
+  pub cost : (most : ℕ) → AreCheap q most → fills ≤ most * steps_charge q whole
+
+-- a note says of no source that it failed
+abbrev pub IsNoFault : Note → Type 0
+IsNoFault nothing = Unit {0}
+IsNoFault (failed source) = ⊥
+IsNoFault (spelled text) = Unit {0}
+
+-- given lines are those of all steps on the finished document of what is asked, under notes that stand only where they may: the first of them the answers show, and no
+-- other says that a source failed
+pub record AreLinesOf (w : Manner) (q : Question) (answers : List Answer) (lines : List ℕ) : Type 0 where
+  pub more : List Note
+  pub others : AllByRecursion IsNoFault more
+  pub allowed : AreNotes false (naming q) (finished q) no_names (notes_of answers ++ more) q.steps
+  pub are : lines ≡ w.under (notes_of answers ++ more)
 
 -- what steps come to that are answered over stores that meant the first before and mean the second after, what it asked, and what a sink has
 -- taken of their lines
@@ -149,11 +171,10 @@ pub record IsAnsweredIn (w : Manner) (before after : StoresView) (q : Question) 
   pub status_is : status ≡ cond (has_fault answers) 1 0
   -- no more pages of tables were asked than fills
   pub pages : after.tables.pages ≤ before.tables.pages + fills
-  -- over told documents no more fills were asked than the tolls of the steps come to that were begun
+  -- over told documents no more fills were asked than the steps may cost that were begun
   pub cost : is_told before q ≡ true → IsFrugal w sink.written sink'.written q fills answers
-  -- over told documents the lines are those of all steps on the tree, under the marks that the answers show
-  pub told : is_told before q ≡ true → let marks = marks_of answers in
-      AreMarks false q.tree no_names marks q.steps × (lines ≡ w.under marks)
+  -- over told documents the lines are those of all steps on the finished document, under the notes that the answers show
+  pub told : is_told before q ≡ true → AreLinesOf w q answers lines
   -- over documents that are not all told the lines are those of answers to all steps
   pub untold : is_told before q ≡ false → (length answers ≡ length q.steps) × (lines ≡ w.lines_of answers)
 
@@ -161,9 +182,9 @@ pub record IsAnsweredIn (w : Manner) (before after : StoresView) (q : Question) 
 abbrev pub IsAnswered : StoresView → StoresView → Question → ℕ → SinkView → SinkView → ℕ → List ℕ → Type 0
 IsAnswered before after q = IsAnsweredIn (in_order q) before after q
 
--- where neither a plan nor a view that it reads needs a table or a source of another machine, and it reads no view, the lines of a run are the transcript without
--- marks, and the status is 0
+-- where neither a plan nor a view that it reads needs a table or a source of another machine, and it reads no view, the status of a run is 0, and where no step writes
+-- an identifier down or follows one, its lines are the transcript without notes
 abbrev pub RunsWithoutTablesAreUnmarked : Type 0
 RunsWithoutTablesAreUnmarked =
     (before after : StoresView) (q : Question) (fills : ℕ) (sink sink' : SinkView) (status : ℕ) (lines : List ℕ)
-    → ((s : ℕ) → MayFail (needs q.ops q.lower) q.sources s → ⊥) → IsAnswered before after q fills sink sink' status lines → (status ≡ 0) × (lines ≡ transcript q.tree [] [] q.steps)
+    → ((s : ℕ) → MayFail (needs q.ops q.lower) q.sources s → ⊥) → IsAnswered before after q fills sink sink' status lines → (status ≡ 0) × (ArePlain q.steps → lines ≡ transcript (unnamed q.tree) [] [] q.steps)

@@ -2,6 +2,7 @@
 use Rattle.std.specs.Prelude.{◌≡◌, ◌⊎◌, ℕ, List}
 use Rattle.mix_tree.specs.Forest.{LabelledTree}
 use Rattle.mix_io.specs.Views.{FilesView}
+use Rattle.mix_script.specs.declared.step.Forms.{Forms}
 use Rattle.mix_script.specs.declared.step.Step.{Step}
 use Rattle.mix_catalog.specs.declared.source.SourceSpec.{SourceSpec}
 use Rattle.plan_core.specs.Plans.{Operator}
@@ -30,12 +31,12 @@ abbrev pub PlanMayRead : PlanFile → FilesView → List ℕ → List ℕ → Li
 PlanMayRead given files file catalog = MayReadAfter given (λ sources ops. ViewsMayRead files ops sources) files file catalog
 
 -- after the files of its catalog and its plan, the files that a run may read: the script, and after it the files of the sources that the plan reads
-abbrev pub ScriptMayRead : FilesView → List ℕ → List SourceSpec → List Operator → List ℕ → Type 0
-ScriptMayRead files script sources ops path = (path ≡ script) ⊎ ((steps : List Step) × IsScript files script steps × SourceMayRead files ops sources path)
+abbrev pub ScriptMayRead : Forms → FilesView → List ℕ → List SourceSpec → List Operator → List ℕ → Type 0
+ScriptMayRead forms files script sources ops path = (path ≡ script) ⊎ ((steps : List Step) × IsScript forms files script steps × SourceMayRead files ops sources path)
 
 -- the files that a run may read: the catalog, the file that gives its plan, the script, and then the files of the sources that the plan reads
 abbrev pub RunMayRead : PlanFile → FilesView → List ℕ → List ℕ → List ℕ → List ℕ → Type 0
-RunMayRead given files file catalog script = MayReadAfter given (ScriptMayRead files script) files file catalog
+RunMayRead given files file catalog script = MayReadAfter given (ScriptMayRead given.forms files script) files file catalog
 
 -- the files that a command may read
 abbrev pub MayRead : FilesView → Command → List ℕ → Type 0

@@ -8,13 +8,15 @@ ghost use Rattle.table_keep.specs.Views.{TablesView};
 ghost use Rattle.mix_place.specs.Placed.{ArePlaced};
 ghost use Rattle.view_stack.specs.Steps.{IsPlanOver as IsPlanOverBase};
 ghost use Rattle.std.specs.List.{AllByRecursion};
+ghost use Rattle.mix_top.specs.Finishing.{IsAnswerable};
 ghost use Rattle.mix_top.specs.Running.{IsEnd, IsEndOver, IsLinesEnd, LinesOver, by_fills, placed};
 ghost use Rattle.mix_place.specs.Plans.{IsPlanOver};
 ghost use Rattle.mix_top.specs.Stops.{end_of};
 
+use crate::law::plans_are_finished;
 use crate::outcome::{Outcome, outcome_of};
 use far_keep::Fars;
-use lazy_value::{Mediator, valid_plans_have_documents};
+use lazy_value::Mediator;
 use lxp_core::Sources;
 use mix_catalog::Catalog;
 use mix_io::Sink;
@@ -76,12 +78,12 @@ fn walk<S: Sources, K: Sink>(
     out: &mut K,
 ) -> Result<Outcome, LinesFault>
     requires over { IsPlanOver asked.catalog (plan_value asked.plan) }
+    requires answerable { IsAnswerable (plan_value asked.plan).ops asked.steps.items }
     requires number { (S.view sources.old).count ≡ length asked.catalog }
     ensures came { S.came_from sources.old sources.new }
     ensures end { IsEnd (sources.new ≡ sources.old) (S.view sources.old) (S.view sources.new) asked (K.view out.old) (K.view out.new) result }
     ensures count { (K.view out.old).faults ≤ (K.view out.new).faults }
 {
-    valid_plans_have_documents();
     let Asked {
         catalog,
         plan,
@@ -92,8 +94,8 @@ fn walk<S: Sources, K: Sink>(
     end_of(run_lines(alloc, sources, mediator, &steps, &names, out))
 }
 
-/// Answers the steps of a run on the document of its plan over sources and views over these, each line by one write. Where the sources stand in for others that are
-/// reached, the lines are those of a run over these. The sources are handed back.
+/// Answers the steps of a run on the document of its plan over sources and views over these, each line by one write. Where the sources stand in for others that
+/// are reached, the lines are those of a run over these. The sources are handed back.
 pub fn answer_over<S: Sources, K: Sink>(
     alloc: Global,
     asked: Asked,
@@ -102,6 +104,7 @@ pub fn answer_over<S: Sources, K: Sink>(
     out: &mut K,
 ) -> (Result<Outcome, LinesFault>, S)
     requires over { IsPlanOver asked.catalog (plan_value asked.plan) }
+    requires answerable { IsAnswerable (plan_value asked.plan).ops asked.steps.items }
     requires views { AllByRecursion (IsPlanOverBase (S.view sources).count) views.items }
     requires number { (S.view sources).count + length views.items ≡ length asked.catalog }
     requires few { length asked.catalog ≤ 32 }
@@ -109,7 +112,7 @@ pub fn answer_over<S: Sources, K: Sink>(
     ensures end { IsEndOver (S.view sources) (S.view result.1) views.items asked (K.view out.old) (K.view out.new) result.0 }
     ensures count { (K.view out.old).faults ≤ (K.view out.new).faults }
 {
-    valid_plans_have_documents();
+    plans_are_finished();
     views_are_documents();
     match Stack::open(alloc, sources, views) {
         Ok(mut stack) => {
@@ -154,7 +157,9 @@ pub fn answer<T: Tables, R: Fars, K: Sink>(
     out: &mut K,
 ) -> Answered<T, R>
     requires over { IsPlanOver ready.asked.catalog (plan_value ready.asked.plan) }
-    requires placed { let asked = ready.asked in (files : FilesView) × ArePlaced files (plan_value asked.plan).ops asked.catalog (placed ready) }
+    requires answerable { IsAnswerable (plan_value ready.asked.plan).ops ready.asked.steps.items }
+    requires placed { let asked = ready.asked in
+        (files : FilesView) × ArePlaced files (plan_value asked.plan).ops asked.catalog (placed ready) }
     requires few { length ready.asked.catalog ≤ 32 }
     ensures keeps { KeepsStores (stores_in T.view R.view stores) (stores_in T.view R.view result.stores) }
     ensures end { let old = stores_in T.view R.view stores in let new = stores_in T.view R.view result.stores in

@@ -8,6 +8,7 @@ ghost use Rattle.mix_top.specs.Counts.{number_lines};
 ghost use Rattle.mix_top.specs.Course.{lines_of_count};
 ghost use Rattle.mix_place.specs.Placed.{ArePlaced};
 ghost use Rattle.mix_place.specs.Plans.{IsPlanOver};
+ghost use Rattle.mix_top.specs.Finishing.{IsAnswerable};
 ghost use Rattle.mix_top.specs.Running.{LinesOver, placed};
 ghost use Rattle.mix_top.specs.Stops.{IsDoneAlong, IsStopAlong};
 
@@ -75,7 +76,9 @@ pub fn count_ready<T: Tables, R: Fars, K: Sink>(
     out: &mut K,
 ) -> (Result<Outcome, Stop>, Stores<T, R>)
     requires over { IsPlanOver ready.asked.catalog (plan_value ready.asked.plan) }
-    requires placed { let asked = ready.asked in (files : FilesView) × ArePlaced files (plan_value asked.plan).ops asked.catalog (placed ready) }
+    requires answerable { IsAnswerable (plan_value ready.asked.plan).ops ready.asked.steps.items }
+    requires placed { let asked = ready.asked in
+        (files : FilesView) × ArePlaced files (plan_value asked.plan).ops asked.catalog (placed ready) }
     requires few { length ready.asked.catalog ≤ 32 }
     ensures keeps { KeepsStores (stores_in T.view R.view stores) (stores_in T.view R.view result.1) }
     ensures done { let old = stores_in T.view R.view stores in let new = stores_in T.view R.view result.1 in

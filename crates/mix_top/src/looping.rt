@@ -5,12 +5,13 @@ ghost use Rattle.plan_core.specs.PlanMade.{plan_value};
 ghost use Rattle.mix_reach.specs.Stores.{KeepsStores, StoresView, stores_in};
 ghost use Rattle.table_keep.specs.Views.{TablesView};
 ghost use Rattle.mix_place.specs.Placed.{ArePlaced};
+ghost use Rattle.mix_top.specs.Finishing.{IsAnswerable};
 ghost use Rattle.mix_top.specs.Running.{IsLinesEnd, LinesOver, by_fills, placed};
 ghost use Rattle.mix_place.specs.Plans.{IsPlanOver};
 
 use crate::asked::{Answered, Ready, answer_over, hand_back};
+use crate::law::plans_are_finished;
 use far_keep::Fars;
-use lazy_value::valid_plans_have_documents;
 use mix_io::Sink;
 use mix_lines::LinesFault;
 use mix_loop::{close_loop, open_loop};
@@ -29,7 +30,9 @@ pub fn answer_looped<T: Tables, R: Fars, K: Sink>(
     out: &mut K,
 ) -> Answered<T, R>
     requires over { IsPlanOver ready.asked.catalog (plan_value ready.asked.plan) }
-    requires placed { let asked = ready.asked in (files : FilesView) × ArePlaced files (plan_value asked.plan).ops asked.catalog (placed ready) }
+    requires answerable { IsAnswerable (plan_value ready.asked.plan).ops ready.asked.steps.items }
+    requires placed { let asked = ready.asked in
+        (files : FilesView) × ArePlaced files (plan_value asked.plan).ops asked.catalog (placed ready) }
     requires few { length ready.asked.catalog ≤ 32 }
     ensures keeps { KeepsStores (stores_in T.view R.view stores) (stores_in T.view R.view result.stores) }
     ensures end { let old = stores_in T.view R.view stores in let new = stores_in T.view R.view result.stores in
@@ -37,7 +40,7 @@ pub fn answer_looped<T: Tables, R: Fars, K: Sink>(
     ensures pages { result.spent.pages ≡ (T.view result.stores.tables).pages - (T.view stores.tables).pages }
     ensures count { (K.view out.old).faults ≤ (K.view out.new).faults }
 {
-    valid_plans_have_documents();
+    plans_are_finished();
     let before = stores.tables.pages();
     let Ready { asked, placement } = ready;
     let Placement { docs, sites, views } = placement;

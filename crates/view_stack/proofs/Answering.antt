@@ -8,10 +8,10 @@ use Rattle.lxp_core.specs.declared.open_tree.HoleId.{HoleId}
 use Rattle.lxp_core.specs.Open.{nil, closed, weight_of, AllHoles, IsProgress, begins_with_hole}
 use Rattle.plan_core.specs.Tolled.{trees_below, trees_after, plain}
 use Rattle.lazy_plan.specs.Bench.{BenchState, told}
-use Rattle.lazy_value.specs.declared.mediator.Mediator.{Mediator}
+use Rattle.lazy_walk.specs.declared.walk.Walk.{Walk}
 use Rattle.lazy_site.specs.Ids.{here}
-use Rattle.lazy_value.specs.Mediators.{state_of}
-use Rattle.lazy_value.specs.Places.{plan_document}
+use Rattle.lazy_walk.specs.Walks.{state_of}
+use Rattle.lazy_walk.specs.Places.{plan_document}
 use Rattle.view_stack.specs.declared.layers.Served.{Served}
 use Rattle.view_stack.specs.declared.part.Part.{Part}
 use Rattle.view_stack.specs.declared.part.Part.TheVariants.{Whole, Below, After}
@@ -73,11 +73,11 @@ given_closed f st served (After j) label n e =
     ap (λ (g : Forest). tree label g (followed (f (hole_of (After n))) none)) (followed-none (f (hole_of (Below n))))
     ∙ ap (tree label (f (hole_of (Below n)))) (followed-none (f (hole_of (After n)))) ∙ sym e
 
-module _ (k k' : Stacking) (i : ℕ) (h : HoleId) (p : Part) (is : part_of h ≡ Some p) (has : has_part k.served i p ≡ true) (r : Option Mediator) (there : view_at k.views i ≡ r) where
+module _ (k k' : Stacking) (i : ℕ) (h : HoleId) (p : Part) (is : part_of h ≡ Some p) (has : has_part k.served i p ≡ true) (r : Option Walk) (there : view_at k.views i ≡ r) where
   -- no node is an answer where the hole's view has no trees there
   pub answers_nothing : (IsTrue (is_told k.base r) → forest k.base k.served r h ≡ none) → Answers (views_of k) (views_of k') i h nil
   answers_nothing e = record {
-    closes = λ t. sym (ap (λ (z : Option Mediator). forest k.base k.served z h) there ∙ e (sym (ap (is_told k.base) there) ∙ t));
+    closes = λ t. sym (ap (λ (z : Option Walk). forest k.base k.served z h) there ∙ e (sym (ap (is_told k.base) there) ∙ t));
     progress = record { top = λ z. cc; apart = tt };
     known = tt;
     lighter = omega arith;
@@ -85,10 +85,10 @@ module _ (k k' : Stacking) (i : ℕ) (h : HoleId) (p : Part) (is : part_of h ≡
     small = λ e. cc;
   }
 
-module _ (k k' : Stacking) (i : ℕ) (h : HoleId) (p : Part) (is : part_of h ≡ Some p) (has : has_part k.served i p ≡ true) (m m' : Mediator) (there : view_at k.views i ≡ Some m) where
+module _ (k k' : Stacking) (i : ℕ) (h : HoleId) (p : Part) (is : part_of h ≡ Some p) (has : has_part k.served i p ≡ true) (m m' : Walk) (there : view_at k.views i ≡ Some m) where
   -- the hole of a part stands for its trees
   forest_is : forest k.base k.served (view_at k.views i) h ≡ part_forest (state_of k.base m) k.served p
-  forest_is = ap (λ (z : Option Mediator). forest k.base k.served z h) there ∙ ap (of_part none (part_forest (state_of k.base m) k.served)) is
+  forest_is = ap (λ (z : Option Walk). forest k.base k.served z h) there ∙ ap (of_part none (part_forest (state_of k.base m) k.served)) is
 
   -- no node is an answer where the part has no trees
   pub answers_none : (IsTrue (told (state_of k.base m)) → part_forest (state_of k.base m) k.served p ≡ none) → Answers (views_of k) (views_of k') i h nil
@@ -105,11 +105,11 @@ module _ (k k' : Stacking) (i : ℕ) (h : HoleId) (p : Part) (is : part_of h ≡
 
     -- the hole below the node that is served stands for the trees below it
     below_last : forest k'.base k'.served (view_at k'.views i) (hole_of (Below (length k.served))) ≡ plain (trees_below (here (state_of k'.base m') x.node.site))
-    below_last = ap (λ (z : Option Mediator). forest k'.base k'.served z (hole_of (Below (length k.served)))) there' ∙ ap (λ (o : Option Served). plain (trees_below (served_tree (state_of k'.base m') o))) last
+    below_last = ap (λ (z : Option Walk). forest k'.base k'.served z (hole_of (Below (length k.served)))) there' ∙ ap (λ (o : Option Served). plain (trees_below (served_tree (state_of k'.base m') o))) last
 
     -- the hole after the node that is served stands for the trees after it
     after_last : forest k'.base k'.served (view_at k'.views i) (hole_of (After (length k.served))) ≡ plain (trees_after (here (state_of k'.base m') x.node.site))
-    after_last = ap (λ (z : Option Mediator). forest k'.base k'.served z (hole_of (After (length k.served)))) there' ∙ ap (λ (o : Option Served). plain (trees_after (served_tree (state_of k'.base m') o))) last
+    after_last = ap (λ (z : Option Walk). forest k'.base k'.served z (hole_of (After (length k.served)))) there' ∙ ap (λ (o : Option Served). plain (trees_after (served_tree (state_of k'.base m') o))) last
 
     -- the list of the node that is served is an answer where that node is the first of the part's trees
     pub answers_given : (IsTrue (told (state_of k.base m)) → part_forest (state_of k.base m) k.served p

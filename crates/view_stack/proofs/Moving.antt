@@ -7,8 +7,8 @@ use Rattle.std.proofs.lemmas.List.{get_or-set_same, get_or-set_other, length-set
 use Rattle.mix_base.proofs.Lists.{append_nil}
 use Rattle.lxp_core.proofs.Views.{keeps_same}
 use Rattle.lxp_core.specs.View.{View, Keeps}
-use Rattle.lazy_value.specs.declared.mediator.Mediator.{Mediator}
-use Rattle.lazy_value.specs.Mediators.{state_of, plan_of, IsMediatorOf}
+use Rattle.lazy_walk.specs.declared.walk.Walk.{Walk}
+use Rattle.lazy_walk.specs.Walks.{state_of, plan_of, IsWalkOf}
 use Rattle.view_stack.specs.declared.layers.Layers.{Layers}
 use Rattle.view_stack.specs.declared.layers.Served.{Served}
 use Rattle.view_stack.specs.Stacks.{stacking_in, view_at, plans_of}
@@ -35,8 +35,8 @@ all_get P [] j e a h = cc
 all_get P (y ∷ ys) zero e a h = (let i : y ≡ e = cc in subst P i a.0)
 all_get P (y ∷ ys) (suc j) e a h = all_get P ys j e a.1 h
 
--- each view that is mounted over sources is a mediator over them
-pub all_views : (v : View) (views : List (Option Mediator)) → AllByRecursion (IsViewOver v) views → (i : ℕ) (m : Mediator) → view_at views i ≡ Some m → IsMediatorOf v m
+-- each view that is mounted over sources is a walk over them
+pub all_views : (v : View) (views : List (Option Walk)) → AllByRecursion (IsViewOver v) views → (i : ℕ) (m : Walk) → view_at views i ≡ Some m → IsWalkOf v m
 all_views v [] a i m e = cc
 all_views v (r ∷ views) a zero m e = subst (IsViewOver v) e a.0
 all_views v (r ∷ views) a (suc i) m e = all_views v views a.1 i m e
@@ -47,9 +47,9 @@ module _ {S : Type 0} (view : S → View) (came_from : S → S → Type 0) (law 
   module _ (l l' : Layers S) (came : came_from l.base l'.base) (keeps : Keeps (view l.base) (view l'.base)) (sound : AreSound view l) where
     module _ (views : l'.views.items ≡ l.views.items) where
       -- each view goes on where none was taken
-      still : (i : ℕ) (r : Option Mediator) → view_at l.views.items i ≡ r → ViewGoes (view l.base) (view l'.base) r (view_at l'.views.items i)
-      still i None e = ap (λ (z : List (Option Mediator)). view_at z i) views ∙ e
-      still i (Some m) e = (m, ap (λ (z : List (Option Mediator)). view_at z i) views ∙ e, (law.views (view l.base) (view l'.base) m (sound.views i m e) keeps).kept)
+      still : (i : ℕ) (r : Option Walk) → view_at l.views.items i ≡ r → ViewGoes (view l.base) (view l'.base) r (view_at l'.views.items i)
+      still i None e = ap (λ (z : List (Option Walk)). view_at z i) views ∙ e
+      still i (Some m) e = (m, ap (λ (z : List (Option Walk)). view_at z i) views ∙ e, (law.views (view l.base) (view l'.base) m (sound.views i m e) keeps).kept)
 
       module _ (served : l'.served.items ≡ l.served.items) where
         -- all goes on where no view was taken and no node served
@@ -65,8 +65,8 @@ module _ {S : Type 0} (view : S → View) (came_from : S → S → Type 0) (law 
         still_sound : AreSound view l'
         still_sound = record {
           views = λ i m e.
-              let old : view_at l.views.items i ≡ Some m = ap (λ (z : List (Option Mediator)). view_at z i) (sym views) ∙ e in
-              (law.views (view l.base) (view l'.base) m (sound.views i m old) keeps).mediator;
+              let old : view_at l.views.items i ≡ Some m = ap (λ (z : List (Option Walk)). view_at z i) (sym views) ∙ e in
+              (law.views (view l.base) (view l'.base) m (sound.views i m old) keeps).walk;
           served = λ n e h. served_goes law (stacking_in view l) (stacking_in view l') still_goes e (sound.served n e (ap (λ (z : List Served). slice_get z n) (sym served) ∙ h));
         }
 
@@ -82,28 +82,28 @@ module _ {S : Type 0} (view : S → View) (came_from : S → S → Type 0) (law 
 
   -- A FILL OF A VIEW
 
-  module _ (l l' : Layers S) (keeps : Keeps (view l.base) (view l'.base)) (sound : AreSound view l) (i : ℕ) (m m' : Mediator) (within : i < length l.views.items)
+  module _ (l l' : Layers S) (keeps : Keeps (view l.base) (view l'.base)) (sound : AreSound view l) (i : ℕ) (m m' : Walk) (within : i < length l.views.items)
       (there : view_at l.views.items i ≡ Some m) (views : l'.views.items ≡ set l.views.items i (Some m')) (stepped : Stepped view came_from l.base m l'.base m') where
     -- the view that was taken is as the call left it
     changed : view_at l'.views.items i ≡ Some m'
-    changed = ap (λ (z : List (Option Mediator)). view_at z i) views ∙ get_or-set_same l.views.items i (Some m') None within
+    changed = ap (λ (z : List (Option Walk)). view_at z i) views ∙ get_or-set_same l.views.items i (Some m') None within
 
     -- another view is as it was
     other : (j : ℕ) → (j ≡ i → ⊥) → view_at l'.views.items j ≡ view_at l.views.items j
-    other j ne = ap (λ (z : List (Option Mediator)). view_at z j) views ∙ get_or-set_other l.views.items i j (Some m') None ne
+    other j ne = ap (λ (z : List (Option Walk)). view_at z j) views ∙ get_or-set_other l.views.items i j (Some m') None ne
 
     -- each view goes on where one was taken
-    step : (j : ℕ) (r : Option Mediator) → view_at l.views.items j ≡ r → ViewGoes (view l.base) (view l'.base) r (view_at l'.views.items j)
+    step : (j : ℕ) (r : Option Walk) → view_at l.views.items j ≡ r → ViewGoes (view l.base) (view l'.base) r (view_at l'.views.items j)
     step j r e = at (cases_eq j i)
       where
-        elsewhere : (j ≡ i → ⊥) → (q : Option Mediator) → view_at l.views.items j ≡ q → ViewGoes (view l.base) (view l'.base) q (view_at l'.views.items j)
+        elsewhere : (j ≡ i → ⊥) → (q : Option Walk) → view_at l.views.items j ≡ q → ViewGoes (view l.base) (view l'.base) q (view_at l'.views.items j)
         elsewhere ne None f = other j ne ∙ f
         elsewhere ne (Some x) f = (x, other j ne ∙ f, (law.views (view l.base) (view l'.base) x (sound.views j x f) keeps).kept)
 
         at : (j ≡ i) ⊎ (j ≡ i → ⊥) → ViewGoes (view l.base) (view l'.base) r (view_at l'.views.items j)
         at (inl f) =
             let is : Some m ≡ r = sym there ∙ ap (view_at l.views.items) (sym f) ∙ e in
-            subst (λ (q : Option Mediator). ViewGoes (view l.base) (view l'.base) q (view_at l'.views.items j)) is (m', ap (view_at l'.views.items) f ∙ changed, stepped.kept)
+            subst (λ (q : Option Walk). ViewGoes (view l.base) (view l'.base) q (view_at l'.views.items j)) is (m', ap (view_at l'.views.items) f ∙ changed, stepped.kept)
         at (inr ne) = elsewhere ne r e
 
     module _ (news : List Served) (served : l'.served.items ≡ l.served.items ++ news) (stand : AllByRecursion (λ e. (e.view ≡ i) × Stands (state_of (view l'.base) m') e.node) news) where
@@ -123,12 +123,12 @@ module _ {S : Type 0} (view : S → View) (came_from : S → S → Type 0) (law 
         served = λ n e h. at_served n e (split_get l.served.items news n e (ap (λ (z : List Served). slice_get z n) (sym served) ∙ h));
       }
         where
-          -- each view that is mounted is a mediator over the later sources
-          at_view : (j : ℕ) (x : Mediator) → view_at l'.views.items j ≡ Some x → (j ≡ i) ⊎ (j ≡ i → ⊥) → IsMediatorOf (view l'.base) x
+          -- each view that is mounted is a walk over the later sources
+          at_view : (j : ℕ) (x : Walk) → view_at l'.views.items j ≡ Some x → (j ≡ i) ⊎ (j ≡ i → ⊥) → IsWalkOf (view l'.base) x
           at_view j x e (inl f) =
               let is : m' ≡ x = (let z : Some m' ≡ Some x = sym changed ∙ ap (view_at l'.views.items) (sym f) ∙ e in cc) in
-              subst (IsMediatorOf (view l'.base)) is stepped.mediator
-          at_view j x e (inr ne) = (law.views (view l.base) (view l'.base) x (sound.views j x (sym (other j ne) ∙ e)) keeps).mediator
+              subst (IsWalkOf (view l'.base)) is stepped.walk
+          at_view j x e (inr ne) = (law.views (view l.base) (view l'.base) x (sound.views j x (sym (other j ne) ∙ e)) keeps).walk
 
           -- each node that was served, now or before, is one of its view
           at_served : (n : ℕ) (e : Served) → ((slice_get l.served.items n ≡ Some e) ⊎ ((j : ℕ) × (slice_get news j ≡ Some e))) → IsServed (view l'.base) l'.views.items e
@@ -200,15 +200,15 @@ module _ {S : Type 0} (view : S → View) (came_from : S → S → Type 0) (law 
 -- READING VIEWS
 
 -- what was read at the number of a view that is mounted is the view
-pub read_view : (views : List (Option Mediator)) (i : ℕ) (r : Option Mediator) (m : Mediator) → i < length views → r ≡ get_or views i r → r ≡ Some m → view_at views i ≡ Some m
+pub read_view : (views : List (Option Walk)) (i : ℕ) (r : Option Walk) (m : Walk) → i < length views → r ≡ get_or views i r → r ≡ Some m → view_at views i ≡ Some m
 read_view views i r m within value is = sym (get_or_default views i r None within) ∙ sym value ∙ is
 
 -- where nothing was read at the number of a view, it is not mounted
-pub read_none : (views : List (Option Mediator)) (i : ℕ) (r : Option Mediator) → i < length views → r ≡ get_or views i r → r ≡ None → view_at views i ≡ None
+pub read_none : (views : List (Option Walk)) (i : ℕ) (r : Option Walk) → i < length views → r ≡ get_or views i r → r ≡ None → view_at views i ≡ None
 read_none views i r within value is = sym (get_or_default views i r None within) ∙ sym value ∙ is
 
 -- what is written back as it was read changes no list
-pub written_back : (views : List (Option Mediator)) (i : ℕ) (r : Option Mediator) → r ≡ get_or views i r → set views i r ≡ views
+pub written_back : (views : List (Option Walk)) (i : ℕ) (r : Option Walk) → r ≡ get_or views i r → set views i r ≡ views
 written_back views i r value = ap (set views i) value ∙ set-get_or views i r
 
 module _ {S : Type 0} (view : S → View) (came_from : S → S → Type 0) (law : KeepsViews) where
@@ -219,11 +219,11 @@ module _ {S : Type 0} (view : S → View) (came_from : S → S → Type 0) (law 
       (ap (λ (z : _). z.items) served) fills (subst (λ (b : S). (view b).fills ≤ (view l.base).fills + 1) (sym base) (omega arith))
 
   -- a fill of a view by which no node is served
-  pub moved_on : (l l' : Layers S) → Keeps (view l.base) (view l'.base) → AreSound view l → (i : ℕ) (m m' : Mediator) → i < length l.views.items → view_at l.views.items i ≡ Some m → l'.views.items ≡ set l.views.items i (Some m')
+  pub moved_on : (l l' : Layers S) → Keeps (view l.base) (view l'.base) → AreSound view l → (i : ℕ) (m m' : Walk) → i < length l.views.items → view_at l.views.items i ≡ Some m → l'.views.items ≡ set l.views.items i (Some m')
       → Stepped view came_from l.base m l'.base m' → l'.served.items ≡ l.served.items → l'.fills ≡ l.fills → Moved view came_from l l'
   moved_on l l' keeps sound i m m' within there views stepped served fills =
       moved_at view came_from law l l' keeps sound i m m' within there views stepped [] (served ∙ sym (append_nil l.served.items)) tt fills
 
 -- the view that was taken is as it was written back
-pub asked_view : (views : List (Option Mediator)) (i : ℕ) (m' : Mediator) → i < length views → view_at (set views i (Some m')) i ≡ Some m'
+pub asked_view : (views : List (Option Walk)) (i : ℕ) (m' : Walk) → i < length views → view_at (set views i (Some m')) i ≡ Some m'
 asked_view views i m' within = get_or-set_same views i (Some m') None within

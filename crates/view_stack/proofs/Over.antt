@@ -4,13 +4,13 @@ use Rattle.std.specs.Prelude.{nat_lt, cond}
 use Rattle.std.proofs.Math.Nat.{mul-le-mul_left, mul_comm}
 use Rattle.std.proofs.lemmas.Bool.Decides.{nat_tests}
 use Rattle.lxp_core.specs.View.{View}
-use Rattle.lazy_value.specs.declared.mediator.Mediator.{Mediator}
+use Rattle.lazy_walk.specs.declared.walk.Walk.{Walk}
 use Rattle.view_stack.specs.declared.part.Part.TheVariants.{Whole}
 use Rattle.view_stack.specs.Parts.{hole_of}
 use Rattle.view_stack.specs.Stacks.{Stacking, view_at, views_of, is_told, tree_alone, forest}
 use Rattle.view_stack.specs.Over.{IsView, AsksBelow}
 
-module _ (k : Stacking) (i : ℕ) (m : Mediator) (there : view_at k.views i ≡ Some m) where
+module _ (k : Stacking) (i : ℕ) (m : Walk) (there : view_at k.views i ≡ Some m) where
   -- the number of a view is none of the sources below
   past : nat_lt (k.base.count + i) k.base.count ≡ false
   past = grind (arith, nat_tests)
@@ -24,7 +24,7 @@ module _ (k : Stacking) (i : ℕ) (m : Mediator) (there : view_at k.views i ≡ 
   view_is = record {
     document_is = λ t e.
         ap (λ (b : Bool). cond b (k.base.forest (k.base.count + i)) ((views_of k).forest (k.base.count + i - k.base.count)) (cond b (k.base.root (k.base.count + i)) (hole_of Whole))) past
-        ∙ ap (λ (j : ℕ). forest k.base k.served (view_at k.views j) (hole_of Whole)) number ∙ ap (λ (r : Option Mediator). forest k.base k.served r (hole_of Whole)) there ∙ ap tree_alone e;
+        ∙ ap (λ (j : ℕ). forest k.base k.served (view_at k.views j) (hole_of Whole)) number ∙ ap (λ (r : Option Walk). forest k.base k.served r (hole_of Whole)) there ∙ ap tree_alone e;
     told_is =
         ap (λ (b : Bool). cond b (k.base.told (k.base.count + i)) ((views_of k).told (k.base.count + i - k.base.count))) past ∙ ap (λ (j : ℕ). is_told k.base (view_at k.views j)) number
         ∙ ap (is_told k.base) there;

@@ -1,4 +1,4 @@
--- What one step of a mediator gives.
+-- What one step of a walk gives.
 use Rattle.std.proofs.Common.{◌≡◌, ℕ, Bool, true, false, List, [], Option, Some, None, refl, ap, sym, subst, ◌∙◌, arith}
 use Rattle.std.specs.Prelude.{IsTrue, slice_get, Result, Ok, Err, IfOk, IsErrOf}
 use Rattle.mix_tree.specs.Forest.{none, LabelledTree, alone, first_tree, first_kids, after_first}
@@ -6,12 +6,12 @@ use Rattle.mix_tree.specs.Place.{trees_at, child_place, next_place}
 use Rattle.mix_tree.proofs.Places.{trees_at-child}
 use Rattle.plan_core.specs.Tolled.{trees_below, trees_after, plain}
 use Rattle.lazy_plan.specs.Bench.{BenchState, KeepsBench, told}
-use Rattle.lazy_value.specs.declared.mediator.Mediator.{Mediator}
-use Rattle.lazy_value.specs.declared.ids.NodeId.{NodeId}
+use Rattle.lazy_walk.specs.declared.walk.Walk.{Walk}
+use Rattle.lazy_walk.specs.declared.ids.WalkedNode.{WalkedNode}
 use Rattle.lazy_site.specs.Ids.{here}
-use Rattle.lazy_value.specs.Mediators.{state_of}
-use Rattle.lazy_value.specs.Places.{IsNode, IsAt, IsLabelAt, GivesPlace, HasNoPlace, IsThere, plan_document}
-use Rattle.lazy_value.specs.Places as places
+use Rattle.lazy_walk.specs.Walks.{state_of}
+use Rattle.lazy_walk.specs.Places.{IsNode, IsAt, IsLabelAt, GivesPlace, HasNoPlace, IsThere, plan_document}
+use Rattle.lazy_walk.specs.Places as places
 use Rattle.view_stack.specs.declared.layers.Found.{Found}
 use Rattle.view_stack.specs.declared.layers.Served.{Served}
 use Rattle.view_stack.specs.declared.part.Part.{Part}
@@ -23,14 +23,14 @@ use Rattle.view_stack.proofs.Views.{document_same}
 
 -- over told sources each identifier stands for the tree at its place of the plan's document, and those after it
 abbrev pub AreThere : BenchState → Type 0
-AreThere st = IsTrue (told st) → (t : LabelledTree) → plan_document st ≡ Some t → (n : NodeId) (p : List ℕ) → IsAt st n p → plain (here st n.site) ≡ trees_at (alone t) p
+AreThere st = IsTrue (told st) → (t : LabelledTree) → plan_document st ≡ Some t → (n : WalkedNode) (p : List ℕ) → IsAt st n p → plain (here st n.site) ≡ trees_at (alone t) p
 
 -- the plan has a document
 abbrev pub HasTree : BenchState → Type 0
 HasTree st = (t : LabelledTree) × (plan_document st ≡ Some t)
 
 -- an identifier over sources that don't tell stands at any place
-stands_untold : (st : BenchState) (n : NodeId) → IsNode st n → told st ≡ false → Stands st n
+stands_untold : (st : BenchState) (n : WalkedNode) → IsNode st n → told st ≡ false → Stands st n
 stands_untold st n h e = ([], record { node = h; place = λ t. absurd_told t; here = λ t. absurd (told_once t); above = λ t. absurd (told_once t) })
   where
     told_once : IsTrue (told st) → ⊥
@@ -40,12 +40,12 @@ stands_untold st n h e = ([], record { node = h; place = λ t. absurd_told t; he
     absurd_told t = absurd (told_once t)
 
 -- the root is the first node of the whole
-pub gives_root : (st : BenchState) → AreThere st → HasTree st → (served : List Served) (n : NodeId) → IsAt st n [] → GivesNode st st served Whole (Some n)
+pub gives_root : (st : BenchState) → AreThere st → HasTree st → (served : List Served) (n : WalkedNode) → IsAt st n [] → GivesNode st st served Whole (Some n)
 gives_root st law has served n h = (([], h), λ y. ap tree_alone has.1 ∙ sym (law y has.0 has.1 n [] h))
 
 module _ (a b : BenchState) (k : KeepsBench a b) (law : AreThere a) (law' : AreThere b) (has : HasTree a) where
   -- a node that a call found stands
-  found_stands : (goal : Option (List ℕ)) (n : NodeId) → IsNode b n → (IsTrue (told a) → IsThere a b goal n) → Stands b n
+  found_stands : (goal : Option (List ℕ)) (n : WalkedNode) → IsNode b n → (IsTrue (told a) → IsThere a b goal n) → Stands b n
   found_stands goal n node there = by_told (told a) refl
     where
       by_told : (z : Bool) → told a ≡ z → Stands b n
@@ -53,7 +53,7 @@ module _ (a b : BenchState) (k : KeepsBench a b) (law : AreThere a) (law' : AreT
       by_told false e = stands_untold b n node (k.told ∙ e)
 
   -- a node that a call found stands for the trees at the place that it was asked for
-  found_trees : (goal : Option (List ℕ)) (n : NodeId) (y : IsTrue (told a)) (h : IsThere a b goal n) → plain (here b n.site) ≡ trees_at (alone has.0) h.place
+  found_trees : (goal : Option (List ℕ)) (n : WalkedNode) (y : IsTrue (told a)) (h : IsThere a b goal n) → plain (here b n.site) ≡ trees_at (alone has.0) h.place
   found_trees goal n y h = law' (subst IsTrue (sym k.told) y) has.0 (document_same a b k ∙ has.1) n h.place h.at
 
   module _ (served : List Served) (j : ℕ) (s : Served) (is : slice_get served j ≡ Some s) (p : List ℕ) (at : IsAt a s.node p) where
@@ -68,7 +68,7 @@ module _ (a b : BenchState) (k : KeepsBench a b) (law : AreThere a) (law' : AreT
     after_trees y = ap (λ (o : Option Served). plain (trees_after (served_tree a o))) is ∙ plain_after (here a s.node.site) ∙ ap after_first (law y has.0 has.1 s.node p at)
 
     -- a first child is the first node below
-    pub gives_child : (r : Option NodeId) → places.GivesNode b r → GivesPlace a b (Some (child_place p)) r → GivesNode a b served (Below j) r
+    pub gives_child : (r : Option WalkedNode) → places.GivesNode b r → GivesPlace a b (Some (child_place p)) r → GivesNode a b served (Below j) r
     gives_child None node place = λ y. below_trees y ∙ nowhere (alone has.0) (child_place p) (place y has.0 has.1 (child_place p) refl)
     gives_child (Some n) node place = (
       found_stands (Some (child_place p)) n node place,
@@ -81,7 +81,7 @@ module _ (a b : BenchState) (k : KeepsBench a b) (law : AreThere a) (law' : AreT
     nothing_after y (Some q) e h = sym (at_next (alone has.0) p q e) ∙ nowhere (alone has.0) q (h has.0 has.1 q refl)
 
     -- a next sibling is the first node after
-    pub gives_next : (r : Option NodeId) → places.GivesNode b r → GivesPlace a b (next_place p) r → GivesNode a b served (After j) r
+    pub gives_next : (r : Option WalkedNode) → places.GivesNode b r → GivesPlace a b (next_place p) r → GivesNode a b served (After j) r
     gives_next None node place = λ y. after_trees y ∙ nothing_after y (next_place p) refl (place y)
     gives_next (Some n) node place = (
       found_stands (next_place p) n node place,
@@ -100,17 +100,17 @@ gives_found a b k law has served part f (stands, trees) label = (
 )
 
 -- a node that was served of a view stands in it
-node_stands : (k : Stacking) → IsSound k → (i : ℕ) (m : Mediator) → view_at k.views i ≡ Some m → (n : ℕ) (o : Option Served) → slice_get k.served n ≡ o → is_of i o ≡ true
+node_stands : (k : Stacking) → IsSound k → (i : ℕ) (m : Walk) → view_at k.views i ≡ Some m → (n : ℕ) (o : Option Served) → slice_get k.served n ≡ o → is_of i o ≡ true
     → (e : Served) × (slice_get k.served n ≡ Some e) × Stands (state_of k.base m) e.node
 node_stands k sound i m there n None e h = cc
 node_stands k sound i m there n (Some s) e h =
     let served = sound.served n s e in
     let at : s.view ≡ i = grind (arith, h) in
     let same : served.view ≡ m = (let z : Some served.view ≡ Some m = sym served.there ∙ ap (view_at k.views) at ∙ there in cc) in
-    (s, e, subst (λ (z : Mediator). Stands (state_of k.base z) s.node) same served.stands)
+    (s, e, subst (λ (z : Walk). Stands (state_of k.base z) s.node) same served.stands)
 
 -- the node of each part that a view has stands in it
-pub part_stands : (k : Stacking) → IsSound k → (i : ℕ) (m : Mediator) → view_at k.views i ≡ Some m → (p : Part) → has_part k.served i p ≡ true → IsPartOf (state_of k.base m) k.served p
+pub part_stands : (k : Stacking) → IsSound k → (i : ℕ) (m : Walk) → view_at k.views i ≡ Some m → (p : Part) → has_part k.served i p ≡ true → IsPartOf (state_of k.base m) k.served p
 part_stands k sound i m at Whole h = tt
 part_stands k sound i m at (Below n) h = node_stands k sound i m at n (slice_get k.served n) refl h
 part_stands k sound i m at (After n) h = node_stands k sound i m at n (slice_get k.served n) refl h

@@ -12,9 +12,9 @@ use Rattle.plan_core.specs.Plans.{Operator, document}
 use Rattle.plan_core.specs.Events.{visited}
 use Rattle.plan_core.specs.Tolled.{Tolled, trees_below, trees_after, plain}
 use Rattle.lazy_plan.specs.Bench.{BenchState, KeepsBench, ops_of, told, forward, documents}
-use Rattle.lazy_value.specs.declared.mediator.Mediator.{Mediator}
-use Rattle.lazy_value.specs.Mediators.{state_of, plan_of, IsMediatorOf}
-use Rattle.lazy_value.specs.Places.{plan_document}
+use Rattle.lazy_walk.specs.declared.walk.Walk.{Walk}
+use Rattle.lazy_walk.specs.Walks.{state_of, plan_of, IsWalkOf}
+use Rattle.lazy_walk.specs.Places.{plan_document}
 use Rattle.view_stack.specs.declared.layers.Served.{Served}
 use Rattle.view_stack.specs.declared.part.Part.{Part}
 use Rattle.view_stack.specs.declared.part.Part.TheVariants.{Whole, Below, After}
@@ -40,12 +40,12 @@ stands_kept law a b k n h = (h.0, (law.nodes a b k).place n h.0 h.1)
 
 module _ (v v' : View) (x : Keeps v v') where
   -- a view tells its document exactly where it did
-  told_kept : (r r' : Option Mediator) → ViewGoes v v' r r' → is_told v' r' ≡ is_told v r
+  told_kept : (r r' : Option Walk) → ViewGoes v v' r r' → is_told v' r' ≡ is_told v r
   told_kept None r' g = ap (is_told v') g
   told_kept (Some m) r' g = ap (is_told v') g.1 ∙ g.2.told
 
   -- a view is forward exactly where it was
-  forward_kept : (r r' : Option Mediator) → ViewGoes v v' r r' → is_forward v' r' ≡ is_forward v r
+  forward_kept : (r r' : Option Walk) → ViewGoes v v' r r' → is_forward v' r' ≡ is_forward v r
   forward_kept None r' g = ap (is_forward v') g
   forward_kept (Some m) r' g =
       ap (is_forward v') g.1 ∙ ap (λ (b : Bool). b && forward (state_of v' g.0)) g.2.told ∙ ap (λ (b : Bool). told (state_of v m) && b) g.2.forward
@@ -61,12 +61,12 @@ module _ (v v' : View) (x : Keeps v v') where
       smaller a b c top h e = grind (arith, h, e)
 
   -- the faults of a view don't become fewer
-  faults_kept : (r r' : Option Mediator) → ViewGoes v v' r r' → faults v r ≤ faults v' r'
+  faults_kept : (r r' : Option Walk) → ViewGoes v v' r r' → faults v r ≤ faults v' r'
   faults_kept None r' g = omega arith
-  faults_kept (Some m) r' g = subst (λ (z : Option Mediator). faults v (Some m) ≤ faults v' z) (sym g.1) (more_faults (ops_of (state_of v m)) (ops_of (state_of v' g.0)) (ops_kept (state_of v m) (state_of v' g.0) g.2))
+  faults_kept (Some m) r' g = subst (λ (z : Option Walk). faults v (Some m) ≤ faults v' z) (sym g.1) (more_faults (ops_of (state_of v m)) (ops_of (state_of v' g.0)) (ops_kept (state_of v m) (state_of v' g.0) g.2))
 
   -- the plan of a view stays the same
-  plan_kept : (r r' : Option Mediator) → ViewGoes v v' r r' → option_map plan_of r' ≡ option_map plan_of r
+  plan_kept : (r r' : Option Walk) → ViewGoes v v' r r' → option_map plan_of r' ≡ option_map plan_of r
   plan_kept None r' g = ap (option_map plan_of) g
   plan_kept (Some m) r' g = ap (option_map plan_of) g.1 ∙ ap (λ (p : Plan). Some p) g.2.plan
 
@@ -80,13 +80,13 @@ lists_same d (x ∷ xs) [] l h = cc
 lists_same d (x ∷ xs) (y ∷ ys) l h = ap (λ z. z ∷ xs) (h 0) ∙ ap (λ zs. y ∷ zs) (lists_same d xs ys (let e : length xs ≡ length ys = cc in e) (λ i. h (suc i)))
 
 -- the plan at a number is that of the view there
-pub plan_at : (views : List (Option Mediator)) (i : ℕ) → get_or (plans_of views) i None ≡ option_map plan_of (view_at views i)
+pub plan_at : (views : List (Option Walk)) (i : ℕ) → get_or (plans_of views) i None ≡ option_map plan_of (view_at views i)
 plan_at [] i = refl
 plan_at (r ∷ views) zero = refl
 plan_at (r ∷ views) (suc i) = plan_at views i
 
 -- there are as many plans as views
-pub length_plans : (views : List (Option Mediator)) → length (plans_of views) ≡ length views
+pub length_plans : (views : List (Option Walk)) → length (plans_of views) ≡ length views
 length_plans [] = refl
 length_plans (r ∷ views) = ap suc (length_plans views)
 
@@ -111,11 +111,11 @@ module _ (law : KeepsViews) (k k' : Stacking) (goes : Goes k k') where
   -- a node that was served stands in its view after a call
   pub served_goes : (e : Served) → IsServed k.base k.views e → IsServed k'.base k'.views e
   served_goes e h =
-      let g : ViewGoes k.base k'.base (Some h.view) (view_at k'.views e.view) = subst (λ (r : Option Mediator). ViewGoes k.base k'.base r (view_at k'.views e.view)) h.there (goes.views e.view) in
+      let g : ViewGoes k.base k'.base (Some h.view) (view_at k'.views e.view) = subst (λ (r : Option Walk). ViewGoes k.base k'.base r (view_at k'.views e.view)) h.there (goes.views e.view) in
       record { view = g.0; there = g.1; stands = stands_kept law (state_of k.base h.view) (state_of k'.base g.0) g.2 e.node h.stands }
 
   module _ (sound : IsSound k) where
-    module _ (i : ℕ) (m m' : Mediator) (there : view_at k.views i ≡ Some m) (kept : KeepsBench (state_of k.base m) (state_of k'.base m')) where
+    module _ (i : ℕ) (m m' : Walk) (there : view_at k.views i ≡ Some m) (kept : KeepsBench (state_of k.base m) (state_of k'.base m')) where
       -- a node that was served stands for the same tree, with the same trees after it
       tree_kept : (n : ℕ) (o : Option Served) → slice_get k.served n ≡ o → is_of i o ≡ true → served_tree (state_of k'.base m') (slice_get k'.served n) ≡ served_tree (state_of k.base m) o
       tree_kept n None e h = cc
@@ -123,7 +123,7 @@ module _ (law : KeepsViews) (k k' : Stacking) (goes : Goes k k') where
           let served = sound.served n s e in
           let at : s.view ≡ i = grind (arith, h) in
           let same : served.view ≡ m = (let z : Some served.view ≡ Some m = sym served.there ∙ ap (view_at k.views) at ∙ there in cc) in
-          let stands : Stands (state_of k.base m) s.node = subst (λ (z : Mediator). Stands (state_of k.base z) s.node) same served.stands in
+          let stands : Stands (state_of k.base m) s.node = subst (λ (z : Walk). Stands (state_of k.base z) s.node) same served.stands in
           ap (served_tree (state_of k'.base m')) (goes.served n s e) ∙ law.trees (state_of k.base m) (state_of k'.base m') kept s.node stands.1.node
 
       -- a part that a view had stands for the same trees
@@ -135,10 +135,10 @@ module _ (law : KeepsViews) (k k' : Stacking) (goes : Goes k k') where
       trees_kept (Some (After n)) h = ap (λ (f : Tolled). plain (trees_after f)) (tree_kept n (slice_get k.served n) refl h)
 
     -- a hole that a view knew stands for the same trees
-    forest_kept : (i : ℕ) (h : HoleId) (r : Option Mediator) → view_at k.views i ≡ r → ViewGoes k.base k'.base r (view_at k'.views i) → knows k.served i h ≡ true
+    forest_kept : (i : ℕ) (h : HoleId) (r : Option Walk) → view_at k.views i ≡ r → ViewGoes k.base k'.base r (view_at k'.views i) → knows k.served i h ≡ true
         → forest k'.base k'.served (view_at k'.views i) h ≡ forest k.base k.served r h
-    forest_kept i h None e g known = ap (λ (z : Option Mediator). forest k'.base k'.served z h) g
-    forest_kept i h (Some m) e g known = ap (λ (z : Option Mediator). forest k'.base k'.served z h) g.1 ∙ trees_kept i m g.0 e g.2 (part_of h) known
+    forest_kept i h None e g known = ap (λ (z : Option Walk). forest k'.base k'.served z h) g
+    forest_kept i h (Some m) e g known = ap (λ (z : Option Walk). forest k'.base k'.served z h) g.1 ∙ trees_kept i m g.0 e g.2 (part_of h) known
 
     -- views that go on keep what every call keeps
     pub views_keep : k.fills ≤ k'.fills → Keeps (views_of k) (views_of k')
@@ -160,7 +160,7 @@ module _ (law : KeepsViews) (k k' : Stacking) (goes : Goes k k') where
     stack_keeps fills = beside_keeps k.base k'.base (views_of k) (views_of k') goes.base (views_keep fills)
 
 -- where a source failed that a view names, the view did
-pub view_failed : (v v' : View) (m m' : Mediator) (r r' : Option Mediator) → r ≡ Some m → r' ≡ Some m' → IsMediatorOf v m → Keeps v v' → KeepsBench (state_of v m) (state_of v' m') → SomeFailed (ops_of (state_of v m)) v v'
+pub view_failed : (v v' : View) (m m' : Walk) (r r' : Option Walk) → r ≡ Some m → r' ≡ Some m' → IsWalkOf v m → Keeps v v' → KeepsBench (state_of v m) (state_of v' m') → SomeFailed (ops_of (state_of v m)) v v'
     → HasRisen (faults v r) (faults v' r')
 view_failed v v' m m' r r' e e' h x k (s, read, rose) =
     let ops = ops_of (state_of v m) in
@@ -170,4 +170,4 @@ view_failed v v' m m' r r' e e' h x k (s, read, rose) =
     let same : faults v' r' ≡ min (sum_below (names ops) v'.faults v.count) (2 ^ 64 - 1) =
     ap (faults v') e' ∙ ap (λ (o : List Operator). min (sum_below (names o) v'.faults v'.count) (2 ^ 64 - 1)) (ops_kept (state_of v m) (state_of v' m') k)
     ∙ ap (λ (n : ℕ). min (sum_below (names ops) v'.faults n) (2 ^ 64 - 1)) x.count in
-    subst (λ (n : ℕ). HasRisen (faults v r) n) (sym same) (subst (λ (z : Option Mediator). HasRisen (faults v z) (min (sum_below (names ops) v'.faults v.count) (2 ^ 64 - 1))) (sym e) up)
+    subst (λ (n : ℕ). HasRisen (faults v r) n) (sym same) (subst (λ (z : Option Walk). HasRisen (faults v z) (min (sum_below (names ops) v'.faults v.count) (2 ^ 64 - 1))) (sym e) up)

@@ -3,21 +3,21 @@ use Rattle.std.specs.Prelude.{◌≡◌, ◌+◌, ◌*◌, ◌-◌, ◌^◌, ◌
 use Rattle.mix_tree.specs.Forest.{LabelledTree, alone}
 use Rattle.lxp_core.specs.View.{View, document}
 use Rattle.lazy_plan.specs.Bench.{told}
-use Rattle.lazy_value.specs.declared.mediator.Mediator.{Mediator}
-use Rattle.lazy_value.specs.Mediators.{state_of}
-use Rattle.lazy_value.specs.Places.{plan_document}
+use Rattle.lazy_walk.specs.declared.walk.Walk.{Walk}
+use Rattle.lazy_walk.specs.Walks.{state_of}
+use Rattle.lazy_walk.specs.Places.{plan_document}
 use Rattle.view_stack.specs.declared.layers.Layers.{Layers}
 use Rattle.view_stack.specs.Stacks.{Stacking, view_at, view_of, plans_of}
 use Rattle.view_stack.specs.Steps.{Bounds, AreOpen, CameFrom}
 
 -- the document of a view is that of its plan over those of the sources below, and it is told where these are
-pub record IsView (k : Stacking) (i : ℕ) (m : Mediator) : Type 0 where
+pub record IsView (k : Stacking) (i : ℕ) (m : Walk) : Type 0 where
   pub document_is : (t : LabelledTree) → plan_document (state_of k.base m) ≡ Some t → document (view_of k) (k.base.count + i) ≡ alone t
   pub told_is : (view_of k).told (k.base.count + i) ≡ told (state_of k.base m)
 
 -- the document of each view that is mounted is that of its plan over those of the sources below, and it is told where these are
 abbrev pub ViewsAreDocuments : Type 0
-ViewsAreDocuments = (k : Stacking) (i : ℕ) (m : Mediator) → view_at k.views i ≡ Some m → IsView k i m
+ViewsAreDocuments = (k : Stacking) (i : ℕ) (m : Walk) → view_at k.views i ≡ Some m → IsView k i m
 
 -- where all sources that the views name are told and forward, so many fills of a new stack ask at most as many below for each as the dearest step
 -- of a view costs, or one; the count of fills below is one of 64 bits

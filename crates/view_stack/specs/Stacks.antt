@@ -11,10 +11,10 @@ use Rattle.plan_core.specs.Tolled.{Tolled, ends, trees_below, trees_after, plain
 use Rattle.lazy_binding.specs.Cursors.{source_number}
 use Rattle.lazy_plan.specs.Bench.{BenchState, ops_of}
 use Rattle.lazy_plan.specs.Bench as bench
-use Rattle.lazy_value.specs.declared.mediator.Mediator.{Mediator}
+use Rattle.lazy_walk.specs.declared.walk.Walk.{Walk}
 use Rattle.lazy_site.specs.Ids.{here}
-use Rattle.lazy_value.specs.Mediators.{state_of, plan_of}
-use Rattle.lazy_value.specs.Places.{plan_document}
+use Rattle.lazy_walk.specs.Walks.{state_of, plan_of}
+use Rattle.lazy_walk.specs.Places.{plan_document}
 use Rattle.view_stack.specs.declared.layers.Layers.{Layers}
 use Rattle.view_stack.specs.declared.layers.Served.{Served}
 use Rattle.view_stack.specs.declared.part.Part.{Part}
@@ -28,7 +28,7 @@ use Rattle.view_stack.specs.Parts as parts
 -- the state of a stack: what the sources below mean, the views over them, the nodes that were served, and how many fills were asked
 pub record Stacking : Type 0 where
   pub base : View
-  pub views : List (Option Mediator)
+  pub views : List (Option Walk)
   pub served : List Served
   pub fills : ℕ
 
@@ -37,22 +37,22 @@ abbrev pub stacking_in : {S : Type 0} → (S → View) → Layers S → Stacking
 stacking_in view l = record { base = view l.base; views = l.views.items; served = l.served.items; fills = l.fills }
 
 -- the view of a number; none where it is not mounted, or where there are not so many
-abbrev pub view_at : List (Option Mediator) → ℕ → Option Mediator
+abbrev pub view_at : List (Option Walk) → ℕ → Option Walk
 view_at views i = get_or views i None
 
 -- the plans of views, where they are mounted
-abbrev pub plans_of : List (Option Mediator) → List (Option Plan)
+abbrev pub plans_of : List (Option Walk) → List (Option Plan)
 plans_of views = map (option_map plan_of) views
 
 -- A VIEW
 
 -- whether a view tells its document: where each source that it names does
-abbrev pub is_told : View → Option Mediator → Bool
+abbrev pub is_told : View → Option Walk → Bool
 is_told v None = false
 is_told v (Some m) = bench.told (state_of v m)
 
 -- whether a view is forward: where each source that it names is told and forward
-abbrev pub is_forward : View → Option Mediator → Bool
+abbrev pub is_forward : View → Option Walk → Bool
 is_forward v None = true
 is_forward v (Some m) = bench.told (state_of v m) && bench.forward (state_of v m)
 
@@ -71,7 +71,7 @@ sum_below test counts zero = 0
 sum_below test counts (suc n) = cond (test n) (counts n) 0 + sum_below test counts n
 
 -- how often a view failed: as often as the sources did that it names, up to the end of the count
-abbrev pub faults : View → Option Mediator → ℕ
+abbrev pub faults : View → Option Walk → ℕ
 faults v None = 0
 faults v (Some m) = min (sum_below (names (ops_of (state_of v m))) v.faults v.count) (2 ^ 64 - 1)
 
@@ -99,7 +99,7 @@ of_part a f None = a
 of_part a f (Some p) = f p
 
 -- the trees that a hole of a view stands for
-abbrev pub forest : View → List Served → Option Mediator → HoleId → Forest
+abbrev pub forest : View → List Served → Option Walk → HoleId → Forest
 forest v served None h = none
 forest v served (Some m) h = of_part none (part_forest (state_of v m) served) (part_of h)
 

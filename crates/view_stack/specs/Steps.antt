@@ -15,12 +15,12 @@ use Rattle.plan_core.specs.Valid.{IsValid, HasSource}
 use Rattle.lazy_binding.specs.Cursors.{IsRead}
 use Rattle.lazy_binding.specs.World.{reads}
 use Rattle.lazy_plan.specs.Bench.{BenchState, KeepsBench, told}
-use Rattle.lazy_value.specs.declared.mediator.Mediator.{Mediator}
-use Rattle.lazy_value.specs.declared.ids.NodeId.{NodeId}
+use Rattle.lazy_walk.specs.declared.walk.Walk.{Walk}
+use Rattle.lazy_walk.specs.declared.ids.WalkedNode.{WalkedNode}
 use Rattle.lazy_site.specs.Ids.{here}
-use Rattle.lazy_value.specs.Kept.{KeepsMediators, TreesStay}
-use Rattle.lazy_value.specs.Mediators.{state_of, plan_of, IdentifiersStay, IsMediatorOf}
-use Rattle.lazy_value.specs.Places.{IsAt, down_toll, right_toll}
+use Rattle.lazy_walk.specs.Kept.{KeepsWalks, TreesStay}
+use Rattle.lazy_walk.specs.Walks.{state_of, plan_of, IdentifiersStay, IsWalkOf}
+use Rattle.lazy_walk.specs.Places.{IsAt, down_toll, right_toll}
 use Rattle.view_stack.specs.declared.layers.Found.{Found}
 use Rattle.view_stack.specs.declared.layers.Layers.{Layers}
 use Rattle.view_stack.specs.declared.layers.Served.{Served}
@@ -33,19 +33,19 @@ use Rattle.view_stack.specs.Stacks.{Stacking, stacking_in, view_at, view_of, pla
 abbrev pub IsPlanOver : ℕ → Option Plan → Type 0
 IsPlanOver count p = MatchOption p (Unit {0}) (λ q. IsValid (plan_value q) × AllByRecursion (HasSource count) (plan_value q).ops)
 
--- a view is not mounted, or it is a mediator over sources that mean this
-abbrev pub IsViewOver : View → Option Mediator → Type 0
-IsViewOver v r = MatchOption r (Unit {0}) (IsMediatorOf v)
+-- a view is not mounted, or it is a walk over sources that mean this
+abbrev pub IsViewOver : View → Option Walk → Type 0
+IsViewOver v r = MatchOption r (Unit {0}) (IsWalkOf v)
 
 -- IDENTIFIERS THAT STAND
 
 -- an identifier stands at some place of the document
-abbrev pub Stands : BenchState → NodeId → Type 0
+abbrev pub Stands : BenchState → WalkedNode → Type 0
 Stands st n = (p : List ℕ) × IsAt st n p
 
--- mediators that no call takes stay, and whatever calls leave of one, its earlier identifiers stay and stand for the same trees
+-- walks that no call takes stay, and whatever calls leave of one, its earlier identifiers stay and stand for the same trees
 pub record KeepsViews : Type 0 where
-  pub views : KeepsMediators
+  pub views : KeepsWalks
   pub nodes : IdentifiersStay
   pub trees : TreesStay
 
@@ -56,14 +56,14 @@ IsPartOf st served (Below n) = (e : Served) × (slice_get served n ≡ Some e) �
 IsPartOf st served (After n) = (e : Served) × (slice_get served n ≡ Some e) × Stands st e.node
 
 -- the view of a node that was served is mounted, and the node's identifier stands in it
-pub record IsServed (v : View) (views : List (Option Mediator)) (e : Served) : Type 0 where
-  pub view : Mediator
+pub record IsServed (v : View) (views : List (Option Walk)) (e : Served) : Type 0 where
+  pub view : Walk
   pub there : view_at views e.view ≡ Some view
   pub stands : Stands (state_of v view) e.node
 
--- each view that is mounted is a mediator over the sources below, and each node that was served is one of its view
+-- each view that is mounted is a walk over the sources below, and each node that was served is one of its view
 pub record IsSound (k : Stacking) : Type 0 where
-  pub views : (i : ℕ) (m : Mediator) → view_at k.views i ≡ Some m → IsMediatorOf k.base m
+  pub views : (i : ℕ) (m : Walk) → view_at k.views i ≡ Some m → IsWalkOf k.base m
   pub served : (n : ℕ) (e : Served) → slice_get k.served n ≡ Some e → IsServed k.base k.views e
 
 -- the layers of a stack are sound, where the sources below mean this
@@ -94,10 +94,10 @@ AreOpen v plans = (i : ℕ) (p : Plan) → get_or plans i None ≡ Some p
 abbrev pub AsksEach : Stacking → Stacking → ℕ → Type 0
 AsksEach old new most = (new.base.fills + most * old.fills ≤ old.base.fills + most * new.fills) ⊎ (2 ^ 64 - 1 ≤ new.fills)
 
--- a view that is mounted goes on as a mediator of the same plan with the identifiers that it had, and one that is not stays so
-abbrev pub ViewGoes : View → View → Option Mediator → Option Mediator → Type 0
+-- a view that is mounted goes on as a walk of the same plan with the identifiers that it had, and one that is not stays so
+abbrev pub ViewGoes : View → View → Option Walk → Option Walk → Type 0
 ViewGoes v v' None r = r ≡ None
-ViewGoes v v' (Some m) r = (m' : Mediator) × (r ≡ Some m') × KeepsBench (state_of v m) (state_of v' m')
+ViewGoes v v' (Some m) r = (m' : Walk) × (r ≡ Some m') × KeepsBench (state_of v m) (state_of v' m')
 
 -- the sources below keep what every call keeps, each view goes on, and each node that was served keeps its number
 pub record Goes (old new : Stacking) : Type 0 where
@@ -126,10 +126,10 @@ pub record CameFrom {S : Type 0} (view : S → View) (came_from : S → S → Ty
 
 -- ONE VIEW
 
--- what a call of one mediator leaves of it and of the sources below, whatever it answers
-pub record Stepped {S : Type 0} (view : S → View) (came_from : S → S → Type 0) (s : S) (m : Mediator) (s' : S) (m' : Mediator) : Type 0 where
+-- what a call of one walk leaves of it and of the sources below, whatever it answers
+pub record Stepped {S : Type 0} (view : S → View) (came_from : S → S → Type 0) (s : S) (m : Walk) (s' : S) (m' : Walk) : Type 0 where
   pub came : came_from s s'
-  pub mediator : IsMediatorOf (view s') m'
+  pub walk : IsWalkOf (view s') m'
   pub kept : KeepsBench (state_of (view s) m) (state_of (view s') m')
   pub lazy : (most : ℕ) → CostsAtMost (documents_of (view s)) (plan_value (plan_of m)).ops most
       → IsTrue (list_all (reads (view s).told) (plan_value (plan_of m)).ops) → IsTrue (list_all (reads (view s).forward) (plan_value (plan_of m)).ops)
@@ -140,7 +140,7 @@ abbrev pub SomeFailed : List Operator → View → View → Type 0
 SomeFailed ops old new = (s : ℕ) × IsRead ops s × HasRisen (old.faults s) (new.faults s)
 
 -- a call answers no node, and over told sources the part has no trees; or an identifier that stands, and over told sources for the first of them
-abbrev pub GivesNode : BenchState → BenchState → List Served → Part → Option NodeId → Type 0
+abbrev pub GivesNode : BenchState → BenchState → List Served → Part → Option WalkedNode → Type 0
 GivesNode old new served part r =
     MatchOption r (IsTrue (told old) → part_forest old served part ≡ none)
     (λ n. Stands new n × (IsTrue (told old) → part_forest old served part ≡ plain (here new n.site)))
@@ -162,7 +162,7 @@ abbrev pub IsOneStep : HoleId → Open → Type 0
 IsOneStep h o = (o ≡ nil) ⊎ ((p : Part) × (part_of h ≡ Some p) × (label : List ℕ) × (n : ℕ) × (o ≡ given label n p))
 
 -- the fill of a hole of the view of a number needs nothing of the sources below: it stands for the whole document, or the view is not mounted
-abbrev pub NeedsNone : List (Option Mediator) → ℕ → HoleId → Type 0
+abbrev pub NeedsNone : List (Option Walk) → ℕ → HoleId → Type 0
 NeedsNone views i h = (part_of h ≡ Some Whole) ⊎ (view_at views i ≡ None)
 
 -- a hole stands for this part, which the view of a number has; or there is none, and that view doesn't know the hole

@@ -70,10 +70,10 @@ pub(crate) fn fill_view<S: Sources>(
     let Some(part) = known_part(&layers.served, view, hole) else {
         return Err(SourceFault::UnknownHole);
     };
-    let Some(mediator) = &mut layers.views[view] else {
+    let Some(walk) = &mut layers.views[view] else {
         return Ok(Vec::new(alloc));
     };
-    let Some(found) = find(alloc, &mut layers.base, mediator, &layers.served, part)? else {
+    let Some(found) = find(alloc, &mut layers.base, walk, &layers.served, part)? else {
         return Ok(Vec::new(alloc));
     };
     let list = list_of(alloc, found.label, layers.served.len(), part)?;

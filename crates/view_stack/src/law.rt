@@ -2,14 +2,14 @@
 ghost use Rattle.view_stack.specs.Over.{AsksBelow, ViewsAreDocuments};
 ghost use Rattle.view_stack.specs.Steps.{KeepsViews};
 
-use lazy_value::{identifiers_stay, mediators_are_kept, trees_stay};
+use lazy_walk::{identifiers_stay, trees_stay, walks_are_kept};
 use lxp_core::Sources;
 
-/// Mediators that no call takes stay, and whatever calls leave of one, its earlier identifiers stay and stand for the same trees.
+/// Walks that no call takes stay, and whatever calls leave of one, its earlier identifiers stay and stand for the same trees.
 pub(crate) fn views_are_kept()
     ensures { KeepsViews }
 {
-    mediators_are_kept();
+    walks_are_kept();
     identifiers_stay();
     trees_stay();
 }

@@ -14,7 +14,7 @@ use std::alloc::{AllocError, Global};
 use std::marker::Brand;
 
 /// Sources, and views over them as further sources, with the numbers after theirs. The document of a view is that of its plan. A hole of it is
-/// asked by one step of its mediator: the root, a first child or a next sibling. A view that is not mounted tells nothing: the list of its root
+/// asked by one step of its walk: the root, a first child or a next sibling. A view that is not mounted tells nothing: the list of its root
 /// hole is empty, and it knows no other hole.
 #[derive(Drop)]
 pub struct Stack<S: Sources> {

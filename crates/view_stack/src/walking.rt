@@ -2,13 +2,13 @@
 ghost use Rattle.std.specs.Prelude.{◌≡◌, IfOk, IsErrOf};
 ghost use Rattle.lazy_plan.specs.Bench.{ops_of};
 ghost use Rattle.lazy_steps.specs.Steps.{HasCause};
-ghost use Rattle.lazy_value.specs.Mediators.{state_of, IsMediatorOf};
+ghost use Rattle.lazy_walk.specs.Walks.{state_of, IsWalkOf};
 ghost use Rattle.view_stack.specs.Steps.{IsPartOf, Stepped, SomeFailed, GivesNode, GivesFound};
 
 use crate::layers::{Found, Served};
 use crate::part::Part;
 use lazy_plan::benches_keep_on;
-use lazy_value::{Mediator, NodeId, WalkFault, trees_are_there, valid_plans_have_documents};
+use lazy_walk::{Walk, WalkFault, WalkedNode, trees_are_there, valid_plans_have_documents};
 use lxp_core::{SourceFault, Sources};
 use std::alloc::Global;
 
@@ -16,11 +16,11 @@ use std::alloc::Global;
 fn first_node<S: Sources>(
     alloc: Global,
     base: &mut S,
-    view: &mut Mediator,
+    view: &mut Walk,
     served: &[Served],
     part: Part,
-) -> Result<Option<NodeId>, WalkFault>
-    requires mediator { IsMediatorOf (S.view base.old) view.old }
+) -> Result<Option<WalkedNode>, WalkFault>
+    requires walk { IsWalkOf (S.view base.old) view.old }
     requires part { IsPartOf (state_of (S.view base.old) view.old) served.now part }
     ensures stepped { Stepped S.view S.came_from base.old view.old base.new view.new }
     ensures cause { HasCause (ops_of (state_of (S.view base.old) view.old)) (S.view base.old) (S.view base.new) result }
@@ -41,11 +41,11 @@ fn first_node<S: Sources>(
 pub(crate) fn find<S: Sources>(
     alloc: Global,
     base: &mut S,
-    view: &mut Mediator,
+    view: &mut Walk,
     served: &[Served],
     part: Part,
 ) -> Result<Option<Found>, SourceFault>
-    requires mediator { IsMediatorOf (S.view base.old) view.old }
+    requires walk { IsWalkOf (S.view base.old) view.old }
     requires part { IsPartOf (state_of (S.view base.old) view.old) served.now part }
     ensures stepped { Stepped S.view S.came_from base.old view.old base.new view.new }
     ensures whole { part ≡ Part.Whole → base.new ≡ base.old }

@@ -63,6 +63,7 @@ returns-clause-ok g c =
       plan_is = plan_before old mid c.args.talking.now.view.now c.in_ok-catalog.catalog (plan_value c.in_ok-plan.plan) c.in_ok-catalog.ensures.keeps c.in_ok-plan.ensures.ok;
       placed_are = place_before old late (plan_value c.in_ok-plan.plan).ops c.in_ok-catalog.catalog _ keeps c.in_ok-placement.ensures.ok;
       few = c.in_ok-catalog.ensures.few;
+      uses = c.in_ok-plan.ensures.uses;
       over = c.in_ok-plan.ensures.over;
     }
 

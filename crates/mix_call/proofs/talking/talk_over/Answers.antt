@@ -1,8 +1,10 @@
-use Rattle.std.proofs.Common.{◌∙◌, ap, inl, inr, refl, subst}
+use Rattle.std.proofs.Common.{◌∙◌, List, ap, inl, inr, refl, subst, sym}
 use Rattle.std.proofs.lemmas.Result.{err_from_is_err_and}
 use Rattle.plan_core.specs.PlanMade.{plan_value}
 use Rattle.plan_core.specs.declared.plan.Plan.{Plan}
-use Rattle.lazy_value.specs.Mediators.{state_of}
+use Rattle.lazy_value.specs.Named.{state_of}
+use Rattle.plan_core.specs.Plans.{Operator}
+use Rattle.plan_evidence.specs.Held.{UsesHeld}
 use Rattle.mix_session.specs.Walks.{plan_course}
 use Rattle.mix_talk.specs.Ends.{TalkEnds}
 use Rattle.mix_call.proofs.talking.talk_over.Goals as goal
@@ -28,3 +30,7 @@ pub returns-in_err-mediator-clause-end : goal.returns-in_err-mediator-clause-end
 returns-in_err-mediator-clause-end g c =
     let p = err_from_is_err_and c.from_residual-in_err-mediator.result c.from_residual-in_err-mediator.ensures.1 in
     inr (rw (p.1, p.2) refl, refl, refl, refl)
+
+pub talk_lines-requires-clause-lets : goal.talk_lines-requires-clause-lets
+talk_lines-requires-clause-lets g c =
+    (tt, subst (λ (ops : List Operator). UsesHeld ops) (sym (ap (λ (q : Plan). (plan_value q).ops) c.in_ok-mediator.ensures.plan)) c.requires.uses)

@@ -2,7 +2,7 @@ use Rattle.std.proofs.Common.{◌≡◌, ◌∙◌, ◌+◌, List, Option, optio
 use Rattle.std.proofs.lemmas.List.{length-map}
 use Rattle.plan_core.specs.PlanMade.{plan_value}
 use Rattle.plan_core.specs.declared.plan.Plan.{Plan}
-use Rattle.lazy_value.specs.Mediators.{plan_of}
+use Rattle.lazy_walk.specs.Walks.{plan_of}
 use Rattle.mix_reach.specs.Reach.{CameFrom, came_keeps, came_same, reaching_in, view_of}
 use Rattle.mix_reach.specs.Stores.{stores_of}
 use Rattle.view_stack.specs.Stacks.{plans_of, stacking_in}
@@ -62,7 +62,7 @@ returns-in-Ok-clause-end g c =
     subst (λ (vs : List (Option Plan)). ArePlaced c.requires.placed.0 ops basis.catalog (placed_of a vs)) (sym c.in-Ok.ensures.plans) c.requires.placed.1 in
     subst (λ (vs : List (Option Plan)). IsReachedEnd a b vs basis (input c.args.streams.now.input) (input c.talk_over-end.new.streams.input) (sink c.args.streams.now.out) (sink c.talk_over-end.new.streams.out) c.talk_over-end.result)
     c.in-Ok.ensures.plans
-    (talk_stack_ends c.requires.placed.0 a b came_ab basis c.requires.over (λ d. c.valid_plans_have_documents.ensures (plan_value basis.plan) c.requires.over.valid d) c.requires.unasked (input c.args.streams.now.input) (sink c.args.streams.now.out)
+    (talk_stack_ends c.requires.placed.0 a b came_ab basis c.requires.over (λ d. (c.plans_are_finished.ensures (plan_value basis.plan) c.requires.over.valid d).1 c.requires.uses) c.requires.unasked (input c.args.streams.now.input) (sink c.args.streams.now.out)
     (input c.talk_over-end.new.streams.input) (sink c.talk_over-end.new.streams.out) c.talk_over-end.result k k' (ap (λ r. view_of (at r)) c.in-Ok.ensures.base) (ap (λ r. view_of (at r)) (sym c.into_base.ensures)) _
     (λ same. ap (λ r. (at r).fills) (c.into_base.ensures ∙ ap (λ s. s.layers.base) same ∙ c.in-Ok.ensures.base)) came.plans c.in-Ok.ensures.fills came.lazy (came_keeps (at c.in-Ok.stack.layers.base) (at c.talk_over-end.new.sources.layers.base) came.base)
     place c.talk_over-end.ensures.end)
@@ -73,7 +73,7 @@ returns-in-Err-clause-end g c few most =
     let basis = c.args.basis in
     let a = at c.args.sources in
     let b = at c.in-Err.refused.base in
-    let found = c.valid_plans_have_documents.ensures (plan_value basis.plan) c.requires.over.valid (all_documents (stores_of a) (placed_of a c.args.views.items)) in
+    let found = (c.plans_are_finished.ensures (plan_value basis.plan) c.requires.over.valid (all_documents (stores_of a) (placed_of a c.args.views.items))).1 c.requires.uses in
     let came = subst (λ r. CameFrom a (at r)) (sym c.in-Err.ensures.refused) (came_same a) in
     let none = ap (λ r. (at r).fills) c.in-Err.ensures.refused ∙ c.requires.unasked in
-    talk_untaken a b came c.args.views.items basis found.0 found.1 none few (g.I.Input.view c.args.streams.now.input) (g.K.Sink.view c.args.streams.now.out)
+    talk_untaken a b came c.args.views.items basis found.finished (λ steps. found.is steps tt) none few (g.I.Input.view c.args.streams.now.input) (g.K.Sink.view c.args.streams.now.out)

@@ -1,10 +1,12 @@
-use Rattle.std.proofs.Common.{◌≡◌, ◌<◌, ◌≤◌, ℕ, Ok, Err, refl, arith, length, drop, subst}
+use Rattle.std.proofs.Common.{◌≡◌, ◌<◌, ◌≤◌, ℕ, Ok, Err, refl, arith, length, drop, subst, sym}
 use Rattle.std.proofs.lemmas.List.{drop_all}
 use Rattle.std.proofs.lemmas.Result.{err_from_is_err_and}
 use Rattle.lxp_core.specs.View.{Keeps}
 use Rattle.mix_script.specs.Names.{held}
+use Rattle.mix_session.specs.Stepped.{LetsAll}
 use Rattle.mix_lines.specs.Lines.{Ends}
 use Rattle.mix_lines.specs.declared.fault.LinesFault.TheVariants.{OutOfMemory}
+use Rattle.mix_lines.proofs.Letting.{lets_at, lets_on}
 use Rattle.mix_lines.proofs.Telling.{ends_told}
 use Rattle.mix_lines.proofs.Running.{far_start, far_step, far_short, far_cut, far_done, step_named}
 use Rattle.mix_lines.proofs.lines.write_lines.Goals as goal
@@ -19,6 +21,15 @@ loop-step-init g c =
       far = far_start (g.W.Walker.means v c.open-session.result.walker) v (held c.open-session.result.names) c.args.script.names.now c.args.script.steps.now (g.K.Sink.view c.args.out.now).written
           (session.session v c.requires.ready) session.names;
     }
+
+pub step-requires-clause-lets : goal.step-requires-clause-lets
+step-requires-clause-lets g c =
+    let means = g.W.Walker.means in
+    let view = g.S.Sources.view in
+    let start = means (view c.args.s.now) c.open-session.result.walker in
+    let all : LetsAll start.course c.args.script.steps.now = subst (λ w. LetsAll (means (view c.args.s.now) w).course c.args.script.steps.now) (sym c.open-session.ensures.walker) c.requires.lets in
+    lets_on start.course (means (view c.loop-step.s) c.loop-step.session.walker).course c.loop-step.invariant.far.so.course _
+    (lets_at start.course c.args.script.steps.now c.loop-step.step-index _ c.loop-step-test.true c.step-item.is all)
 
 pub write_line-requires : goal.write_line-requires
 write_line-requires g c =
@@ -35,7 +46,7 @@ loop-step-preserved g c =
     let line = c.in_ok-fault.ensures.line in
     let same : line.a ≡ c.in_ok-answer.answer = line.answer in
     let more = far_step _ _ _ _ _ _ _ _ _ _ _ _ _ _ _ c.loop-step-test.true c.step-item.is c.loop-step.invariant.far keeps.faults (Ok c.in_ok-answer.answer) c.in_ok-answer.ensures.stepped
-    line.a (rw same c.in_ok-answer.ensures.stepped.answer) (g.K.Sink.view c.write_line.new.out).written line.written in
+    line.a (rw same c.in_ok-answer.ensures.stepped.answer) (rw same c.in_ok-answer.ensures.stepped.names) (g.K.Sink.view c.write_line.new.out).written line.written in
     record {
       came = g.met.S.Sources.after _ _ _ c.loop-step.invariant.came c.step.ensures.came;
       count = omega (arith, c.loop-step.invariant.count, c.write_line.ensures.count);
@@ -65,7 +76,7 @@ returns-in_err-fault-clause-ends g c =
     let keeps : Keeps (view c.loop-step.s) (view c.step.new.s) = g.met.S.Sources.keeps _ _ c.step.ensures.came in
     let p = err_from_is_err_and c.from_residual-in_err-fault.result c.from_residual-in_err-fault.ensures.1 in
     let cut = far_cut _ _ _ _ _ _ _ _ _ _ _ _ _ _ _ c.loop-step-test.true c.step-item.is c.loop-step.invariant.far keeps.faults (Ok c.in_ok-answer.answer) c.in_ok-answer.ensures.stepped c.in_ok-answer.answer
-    c.in_ok-answer.ensures.stepped.answer (sink c.args.out.now) (sink c.loop-step.out) (sink c.write_line.new.out) c.in_err-fault.field-0.0 refl refl c.loop-step.invariant.count c.in_err-fault.ensures.cut in
+    c.in_ok-answer.ensures.stepped.answer c.in_ok-answer.ensures.stepped.names (sink c.args.out.now) (sink c.loop-step.out) (sink c.write_line.new.out) c.in_err-fault.field-0.0 refl refl c.loop-step.invariant.count c.in_err-fault.ensures.cut in
     rw (p.1, p.2)
     (subst (λ w. Ends (g.W.Walker.means (view c.args.s.now) w).course (view c.args.s.now) (view c.step.new.s) c.args.script.names.now c.args.script.steps.now (sink c.args.out.now) (sink c.write_line.new.out) (Err c.in_err-fault.field-0.0))
     c.open-session.ensures.walker cut)

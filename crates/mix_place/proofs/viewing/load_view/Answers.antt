@@ -1,5 +1,6 @@
 use Rattle.std.proofs.Common.{◌∙◌, ℕ, List, ap, length, subst, sym}
-use Rattle.plan_core.specs.Plans.{PlanValue}
+use Rattle.plan_core.specs.Plans.{Operator, PlanValue}
+use Rattle.plan_evidence.specs.Held.{UsesHeld}
 use Rattle.xmas_rule.specs.RuleMade.{rule_of}
 use Rattle.xmas_rule.specs.Rules.{IsAccepted}
 use Rattle.plan_rewrite.specs.Rewritten.{plan_for}
@@ -23,3 +24,8 @@ returns-clause-over g c = record {
   valid = c.in_ok-plan_view.ensures.valid;
   names = ap (λ (p : PlanValue). p.sources) c.in_ok-plan_view.ensures.made ∙ c.deref.ensures.value ∙ c.in_ok-names.ensures;
 }
+
+pub returns-clause-uses : goal.returns-clause-uses
+returns-clause-uses g c =
+    subst (λ (ops : List Operator). UsesHeld ops) (sym (ap (λ (p : PlanValue). p.ops) c.in_ok-plan_view.ensures.made))
+    (c.plans_of_views_use_what_is_held.ensures.rewritten _ (rule_of c.in_ok-rule.rule) c.in_ok-rule.ensures.accepted)

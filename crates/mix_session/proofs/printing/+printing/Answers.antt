@@ -2,8 +2,8 @@ use Rattle.std.proofs.Common.{rules, Some, None, subst}
 use Rattle.std.proofs.lemmas.Result.{IfOk-weaker}
 use Rattle.lxp_core.specs.View.{Keeps}
 use Rattle.mix_script.specs.declared.step.Way.TheVariants.{Right}
-use Rattle.mix_session.specs.Printing.{OpensTree, PrintsOne}
-use Rattle.mix_session.proofs.Walking.{stays_same, stays_twice, fails_before}
+use Rattle.mix_session.specs.Printing.{IsPaidFor, OpensTree, PrintsOne}
+use Rattle.mix_session.proofs.Walking.{stays_same, stays_twice, still_paid, on_ok, fails_before}
 use Rattle.mix_session.proofs.Prints.{down_costs, opened_leaf, opened_below, node_costs, tree_costs, one_costs, step_later, printed_start, printed_costs, printed_all, printed_more}
 use Rattle.mix_session.proofs.printing.+printing.Goals as goal
 
@@ -68,6 +68,19 @@ print_tree-returns-in-Some-clause-text g t c =
     subst (OpensTree m m' c.args.n.now c.args.text.now.items c.open_tree.new.text.items) c.in-Some.is c.in_ok-first.ensures.text in
     opened_below m c.args.n.now m' c.in-Some.first ran.stays some.step c.args.text.now.items c.open_tree.new.text.items c.print_trees.new.text.items c.print_trees.result some c.print_trees.ensures.text
 
+pub print_tree-returns-in-None-clause-paid : goal.print_tree-returns-in-None-clause-paid
+print_tree-returns-in-None-clause-paid g t c = c.in_ok-first.ensures.text.step.paid
+
+pub print_tree-returns-in-Some-clause-paid : goal.print_tree-returns-in-Some-clause-paid
+print_tree-returns-in-Some-clause-paid g t c =
+    let view = g.S.Sources.view in
+    let means = g.W.Walker.means in
+    let m = means (view c.args.s.now) c.args.walker.now in
+    let m' = means (view c.open_tree.new.s) c.open_tree.new.walker in
+    let m'' = means (view c.print_trees.new.s) c.print_trees.new.walker in
+    let paid = still_paid {m = m} {m' = m'} {m'' = m''} c.open_tree.ensures.walked.stays c.print_trees.ensures.walked.stays c.args.n.now c.in_ok-first.ensures.text.step.paid in
+    on_ok c.print_trees.result (IsPaidFor m m'' c.args.n.now) paid
+
 pub print_one-returns-in_err-print_tree-clause-walked : goal.print_one-returns-in_err-print_tree-clause-walked
 print_one-returns-in_err-print_tree-clause-walked g t c =
     let view = g.S.Sources.view in
@@ -93,7 +106,7 @@ print_one-returns-clause-walked g t c =
     record {
       stays = stays_twice {m = m} {m' = m'} {m'' = m''} ran.stays next.stays;
       cause = fails_before {m = m} {m' = m'} ran.stays (view c.args.s.now).faults (view c.print_tree.new.s).faults (view c.next_tree.new.s).faults keeps.faults c.next_tree.result next.cause;
-      cost = one_costs m m' c.args.n.now (view c.args.s.now).fills (view c.print_tree.new.s).fills (view c.next_tree.new.s).fills ran.stays ran.cost next.cost;
+      cost = one_costs m m' c.args.n.now (view c.args.s.now).fills (view c.print_tree.new.s).fills (view c.next_tree.new.s).fills ran.stays c.in_ok-print_tree.ensures.paid ran.cost next.cost;
     }
 
 pub print_one-returns-clause-text : goal.print_one-returns-clause-text
@@ -121,7 +134,7 @@ print_trees-trees-init g t c =
     record {
       came = g.met.S.Sources.same _;
       kept = g.met.W.Walker.same _ _;
-      printed = printed_start m c.args.first (view c.args.s.now).fills c.args.text.now.items (stays_same m c.requires.ready) c.requires.node;
+      printed = printed_start m c.args.first (view c.args.s.now).fills c.args.text.now.items (stays_same m c.requires.ready) c.requires.node c.requires.walked;
     }
 
 pub print_trees-returns-in_err-next-clause-walked : goal.print_trees-returns-in_err-next-clause-walked

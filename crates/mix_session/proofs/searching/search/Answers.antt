@@ -33,7 +33,7 @@ returns-in_err-next-clause-cost g c =
     let so = c.siblings.invariant.sought in
     let reads = c.read_label.ensures (view c.siblings.s) so.stays.ready in
     let other : bytes_eq c.read_label.result.now c.args.label.now ≡ false = sym c.same_label.ensures ∙ c.if-same_label.false in
-    more_costs m c.args.label.now c.args.first m' (view c.args.s.now).fills (view c.siblings.s).fills c.siblings.node so c.read_label.result.now reads m'' (view c.seek.new.s).fills other c.seek.ensures.stays c.seek.ensures.toll
+    more_costs m c.args.label.now c.args.first m' (view c.args.s.now).fills (view c.siblings.s).fills c.siblings.node so c.read_label.result.now reads m'' (view c.seek.new.s).fills other c.seek.ensures.stays c.seek.ensures.cost
 
 pub returns-in-None-clause-cost : goal.returns-in-None-clause-cost
 returns-in-None-clause-cost g c =
@@ -44,7 +44,7 @@ returns-in-None-clause-cost g c =
     let so = c.siblings.invariant.sought in
     let reads = c.read_label.ensures (view c.siblings.s) so.stays.ready in
     let other : bytes_eq c.read_label.result.now c.args.label.now ≡ false = sym c.same_label.ensures ∙ c.if-same_label.false in
-    more_costs m c.args.label.now c.args.first m' (view c.args.s.now).fills (view c.siblings.s).fills c.siblings.node so c.read_label.result.now reads m'' (view c.seek.new.s).fills other c.seek.ensures.stays c.seek.ensures.toll
+    more_costs m c.args.label.now c.args.first m' (view c.args.s.now).fills (view c.siblings.s).fills c.siblings.node so c.read_label.result.now reads m'' (view c.seek.new.s).fills other c.seek.ensures.stays c.seek.ensures.cost
 
 pub returns-in-Fault-clause-cost : goal.returns-in-Fault-clause-cost
 returns-in-Fault-clause-cost g c =
@@ -55,7 +55,7 @@ returns-in-Fault-clause-cost g c =
     let so = c.siblings.invariant.sought in
     let reads = c.read_label.ensures (view c.siblings.s) so.stays.ready in
     let other : bytes_eq c.read_label.result.now c.args.label.now ≡ false = sym c.same_label.ensures ∙ c.if-same_label.false in
-    more_costs m c.args.label.now c.args.first m' (view c.args.s.now).fills (view c.siblings.s).fills c.siblings.node so c.read_label.result.now reads m'' (view c.seek.new.s).fills other c.seek.ensures.stays c.seek.ensures.toll
+    more_costs m c.args.label.now c.args.first m' (view c.args.s.now).fills (view c.siblings.s).fills c.siblings.node so c.read_label.result.now reads m'' (view c.seek.new.s).fills other c.seek.ensures.stays c.seek.ensures.cost
 
 pub siblings-preserved : goal.siblings-preserved
 siblings-preserved g c =
@@ -71,7 +71,7 @@ siblings-preserved g c =
       came = g.met.S.Sources.after _ _ _ c.siblings.invariant.came c.seek.ensures.came;
       kept = g.met.W.Walker.twice _ _ _ _ _ _ c.siblings.invariant.kept c.seek.ensures.kept;
       sought = sought_more m c.args.label.now c.args.first m' (view c.args.s.now).fills (view c.siblings.s).fills c.siblings.node so c.read_label.result.now reads m'' (view c.seek.new.s).fills other c.seek.ensures.stays
-          c.seek.ensures.toll (view c.args.s.now).faults (view c.siblings.s).faults (view c.seek.new.s).faults keeps.faults c.in_ok-next.field-0 c.in_ok-next.ensures.found c.in-Node.next c.in-Node.is;
+          c.seek.ensures.cost (view c.args.s.now).faults (view c.siblings.s).faults (view c.seek.new.s).faults keeps.faults c.in_ok-next.field-0 c.in_ok-next.ensures.found c.in-Node.next c.in-Node.is;
     }
 
 pub returns-in-None-clause-found : goal.returns-in-None-clause-found
@@ -85,7 +85,7 @@ returns-in-None-clause-found g c =
     let other : bytes_eq c.read_label.result.now c.args.label.now ≡ false = sym c.same_label.ensures ∙ c.if-same_label.false in
     let keeps : Keeps (view c.args.s.now) (view c.siblings.s) = g.met.S.Sources.keeps _ _ c.siblings.invariant.came in
     sought_none m c.args.label.now c.args.first m' (view c.args.s.now).fills (view c.siblings.s).fills c.siblings.node so c.read_label.result.now reads m'' (view c.seek.new.s).fills other c.seek.ensures.stays
-    c.seek.ensures.toll (view c.args.s.now).faults (view c.siblings.s).faults (view c.seek.new.s).faults keeps.faults c.in_ok-next.field-0 c.in_ok-next.ensures.found c.in-None.is
+    c.seek.ensures.cost (view c.args.s.now).faults (view c.siblings.s).faults (view c.seek.new.s).faults keeps.faults c.in_ok-next.field-0 c.in_ok-next.ensures.found c.in-None.is
 
 pub returns-in_err-next-clause-came : goal.returns-in_err-next-clause-came
 returns-in_err-next-clause-came g c = g.met.S.Sources.after _ _ _ c.siblings.invariant.came c.seek.ensures.came

@@ -1,4 +1,4 @@
-use Rattle.std.proofs.Common.{[], Ok, Err, refl, ap, arith, subst}
+use Rattle.std.proofs.Common.{[], Ok, Err, refl, ap, arith, subst, sym}
 use Rattle.std.proofs.lemmas.Result.{err_from_is_err_and}
 use Rattle.mix_script.specs.Names.{held}
 use Rattle.mix_talk.specs.Ends.{TalkEnds}
@@ -71,6 +71,14 @@ answer_read-answered-requires-clause-session g c = c.lines.invariant.far.session
 pub answer_read-answered-requires-clause-names : goal.answer_read-answered-requires-clause-names
 answer_read-answered-requires-clause-names g c = λ n may.
     c.requires.names n (subst (λ w. (g.W.Walker.means (g.S.Sources.view c.args.s.now) w).course.MayFail n) c.open-session.ensures.walker ((c.lines.invariant.far.so []).course.may n may))
+
+pub answer_read-answered-requires-clause-lets : goal.answer_read-answered-requires-clause-lets
+answer_read-answered-requires-clause-lets g c =
+    let means = g.W.Walker.means in
+    let view = g.S.Sources.view in
+    let goes = (c.lines.invariant.far.so []).course in
+    let first = subst (λ w. (means (view c.args.s.now) w).course.Tells × (means (view c.args.s.now) w).course.Follows) (sym c.open-session.ensures.walker) c.requires.lets in
+    (goes.tells first.0, goes.follows first.1)
 
 pub returns-in_err-fault-clause-came : goal.returns-in_err-fault-clause-came
 returns-in_err-fault-clause-came g c = g.met.S.Sources.after _ _ _ c.lines.invariant.came c.answer_read-answered.ensures.came

@@ -5,8 +5,9 @@ use Rattle.plan_core.specs.declared.plan.Plan.{Plan}
 use Rattle.mix_lines.specs.declared.fault.LinesFault.TheVariants.{OutOfMemory}
 use Rattle.lxp_core.specs.View.{View}
 use Rattle.view_stack.specs.Stacks.{plans_of, stacking_in}
-use Rattle.lazy_value.specs.Mediators.{plan_of}
+use Rattle.lazy_walk.specs.Walks.{plan_of}
 use Rattle.mix_top.specs.Running.{IsEndOver}
+use Rattle.mix_top.proofs.Finishing.{finished_for}
 use Rattle.mix_top.proofs.Ending.{stack_ends, unopened_ends}
 use Rattle.mix_top.proofs.asked.answer_over.Goals as goal
 
@@ -20,7 +21,7 @@ returns-in-Ok-clause-end g c =
     let k' = stacking_in view c.walk-end.new.sources.layers in
     let came = c.walk-end.ensures.came in
     let end = c.walk-end.result in
-    let h = stack_ends asked c.requires.over (λ d. c.valid_plans_have_documents.ensures (plan_value asked.plan) c.requires.over.valid d) before after end k k' _ (λ same. ap (λ s. view s.layers.base) same)
+    let h = stack_ends asked c.requires.over (λ d. finished_for c.plans_are_finished.ensures (plan_value asked.plan) c.requires.over.valid asked.steps.items c.requires.answerable d) before after end k k' _ (λ same. ap (λ s. view s.layers.base) same)
     (g.met.S.Sources.keeps c.in-Ok.stack.layers.base c.walk-end.new.sources.layers.base came.base) came.plans c.in-Ok.ensures.fills came.lazy c.walk-end.ensures.end in
     subst (λ (v : View). IsEndOver v (view c.into_base.result) c.args.views.items asked before after end) (ap view c.in-Ok.ensures.base)
     (subst (λ (v : View). IsEndOver k.base v c.args.views.items asked before after end) (ap view (sym c.into_base.ensures))
@@ -32,7 +33,7 @@ returns-in-Err-clause-end g c =
     let asked = c.args.asked in
     let before = g.K.Sink.view c.args.out.now in
     subst (λ (v : View). IsEndOver (view c.args.sources) v c.args.views.items asked before before (Err OutOfMemory)) (ap view (sym c.in-Err.ensures.refused))
-    (unopened_ends asked c.requires.over (λ d. c.valid_plans_have_documents.ensures (plan_value asked.plan) c.requires.over.valid d) before (view c.args.sources) c.args.views.items)
+    (unopened_ends asked c.requires.over (λ d. finished_for c.plans_are_finished.ensures (plan_value asked.plan) c.requires.over.valid asked.steps.items c.requires.answerable d) before (view c.args.sources) c.args.views.items)
 
 pub walk-end-requires-clause-number : goal.walk-end-requires-clause-number
 walk-end-requires-clause-number g c =

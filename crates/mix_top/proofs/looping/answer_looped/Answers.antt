@@ -1,4 +1,5 @@
 use Rattle.std.proofs.Common.{◌≡◌, ◌∙◌, ◌+◌, ◌-◌, ◌^◌, ◌≤◌, Err, ap, length, sym, subst}
+use Rattle.mix_top.proofs.Finishing.{finished_for}
 use Rattle.mix_top.proofs.Opened.{stackable}
 use Rattle.mix_lines.specs.declared.fault.LinesFault.TheVariants.{OutOfMemory}
 use Rattle.lxp_remote.specs.Remotes as remote
@@ -63,7 +64,7 @@ returns-in-Err-clause-end g c =
     let before = g.K.Sink.view c.args.out.now in
     let views = (placed c.args.ready).views in
     let none : b.fills ≡ 0 = c.in-Err.ensures.unasked ∙ c.new-sources.ensures.fills in
-    let found = c.valid_plans_have_documents.ensures (plan_value asked.plan) c.requires.over.valid (all_documents (stores_of a) (placed_of a views)) in
+    let found = finished_for c.plans_are_finished.ensures (plan_value asked.plan) c.requires.over.valid asked.steps.items c.requires.answerable (all_documents (stores_of a) (placed_of a views)) in
     let few : b.mounted.tables.pages ≤ a.mounted.tables.pages + b.fills = few_unfilled a b c.in-Err.ensures.refused none in
     let place = placed_new view far (placed c.args.ready) c.new.result c.new-sources.result c.new.ensures.docs c.new-sources.ensures.mounted c.new-sources.ensures.sites in
     end_stood asked before before (Err OutOfMemory) a b views (lines_unbegun a b c.in-Err.ensures.refused views asked found.0 found.1 none few before) (placed c.args.ready) (stores_in view far c.args.stores)

@@ -1,4 +1,5 @@
-use Rattle.std.proofs.Common.{IfOk, IfErr, subst, sym}
+use Rattle.std.proofs.Common.{◌≡◌, ◌∙◌, IfOk, IfErr, ap, subst, sym}
+use Rattle.mix_script.specs.declared.step.Forms.TheVariants.{Plain, WithIds}
 use Rattle.plan_core.specs.PlanMade.{plan_value}
 use Rattle.plan_core.specs.declared.plan.Plan.{Plan}
 use Rattle.mix_top.specs.Running.{IsPlanGiven, given_by}
@@ -24,3 +25,9 @@ returns-in-Executed-clause-ok g c =
 pub returns-in-Executed-clause-err : goal.returns-in-Executed-clause-err
 returns-in-Executed-clause-err g c =
     subst (λ (form : RunForm). IfErr c.load_plan.result (IsLoadStop ((given_by form).IsNone c.args.catalog.now) (g.F.Files.view c.args.files.now) (g.F.Files.view c.load_plan.new.files) c.args.path.now)) (sym c.in-Executed.is) c.load_plan.ensures.err
+
+pub returns-in-Answers-clause-uses : goal.returns-in-Answers-clause-uses
+returns-in-Answers-clause-uses g c = λ ids. c.load_view.ensures.uses
+
+pub returns-in-Executed-clause-uses : goal.returns-in-Executed-clause-uses
+returns-in-Executed-clause-uses g c = λ ids. absurd (let z : Plain ≡ WithIds = sym (ap (λ form. (given_by form).forms) c.in-Executed.is) ∙ ids in cc)

@@ -24,23 +24,23 @@ returns-in_default-index_mut-clause-moved g c =
     let l = c.args.layers.now in
     unmoved g.S.Sources.view g.S.Sources.came_from c.views_are_kept.ensures g.met.S.Sources.same l _ c.requires.sound refl (written_back l.views.items c.args.view c.index_mut.result.now c.index_mut.ensures.value) refl refl
 
-pub find-requires-clause-mediator : goal.find-requires-clause-mediator
-find-requires-clause-mediator g c =
+pub find-requires-clause-walk : goal.find-requires-clause-walk
+find-requires-clause-walk g c =
     let views = c.args.layers.now.views.items in
-    c.requires.sound.views c.args.view c.in-Some-index_mut.mediator (read_view views c.args.view c.index_mut.result.now c.in-Some-index_mut.mediator c.requires.view c.index_mut.ensures.value c.in-Some-index_mut.is)
+    c.requires.sound.views c.args.view c.in-Some-index_mut.walk (read_view views c.args.view c.index_mut.result.now c.in-Some-index_mut.walk c.requires.view c.index_mut.ensures.value c.in-Some-index_mut.is)
 
 pub find-requires-clause-part : goal.find-requires-clause-part
 find-requires-clause-part g c =
     let l = c.args.layers.now in
-    let there = read_view l.views.items c.args.view c.index_mut.result.now c.in-Some-index_mut.mediator c.requires.view c.index_mut.ensures.value c.in-Some-index_mut.is in
-    rw c.deref-2.ensures.value (part_stands (stacking_in g.S.Sources.view l) c.requires.sound c.args.view c.in-Some-index_mut.mediator there c.in-Some.part (rw c.deref.ensures.value at c.in-Some.ensures.1))
+    let there = read_view l.views.items c.args.view c.index_mut.result.now c.in-Some-index_mut.walk c.requires.view c.index_mut.ensures.value c.in-Some-index_mut.is in
+    rw c.deref-2.ensures.value (part_stands (stacking_in g.S.Sources.view l) c.requires.sound c.args.view c.in-Some-index_mut.walk there c.in-Some.part (rw c.deref.ensures.value at c.in-Some.ensures.1))
 
 pub returns-in_err-found-clause-moved : goal.returns-in_err-found-clause-moved
 returns-in_err-found-clause-moved g c =
     let l = c.args.layers.now in
-    let there = read_view l.views.items c.args.view c.index_mut.result.now c.in-Some-index_mut.mediator c.requires.view c.index_mut.ensures.value c.in-Some-index_mut.is in
+    let there = read_view l.views.items c.args.view c.index_mut.result.now c.in-Some-index_mut.walk c.requires.view c.index_mut.ensures.value c.in-Some-index_mut.is in
     let stepped = c.find.ensures.stepped in
-    moved_on g.S.Sources.view g.S.Sources.came_from c.views_are_kept.ensures l _ (g.met.S.Sources.keeps l.base c.find.new.base stepped.came) c.requires.sound c.args.view c.in-Some-index_mut.mediator c.find.new.view c.requires.view there refl
+    moved_on g.S.Sources.view g.S.Sources.came_from c.views_are_kept.ensures l _ (g.met.S.Sources.keeps l.base c.find.new.base stepped.came) c.requires.sound c.args.view c.in-Some-index_mut.walk c.find.new.view c.requires.view there refl
     stepped refl refl
 
 pub returns-in_err-found-clause-failed : goal.returns-in_err-found-clause-failed
@@ -48,7 +48,7 @@ returns-in_err-found-clause-failed g c =
     let l = c.args.layers.now in
     let v = g.S.Sources.view l.base in
     let v' = g.S.Sources.view c.find.new.base in
-    let m = c.in-Some-index_mut.mediator in
+    let m = c.in-Some-index_mut.walk in
     let there = read_view l.views.items c.args.view c.index_mut.result.now m c.requires.view c.index_mut.ensures.value c.in-Some-index_mut.is in
     let stepped = c.find.ensures.stepped in
     let p = err_from_is_err_and c.from_residual.result c.from_residual.ensures.1 in
@@ -59,35 +59,35 @@ returns-in_err-found-clause-failed g c =
 pub returns-in_default-2-clause-moved : goal.returns-in_default-2-clause-moved
 returns-in_default-2-clause-moved g c =
     let l = c.args.layers.now in
-    let there = read_view l.views.items c.args.view c.index_mut.result.now c.in-Some-index_mut.mediator c.requires.view c.index_mut.ensures.value c.in-Some-index_mut.is in
+    let there = read_view l.views.items c.args.view c.index_mut.result.now c.in-Some-index_mut.walk c.requires.view c.index_mut.ensures.value c.in-Some-index_mut.is in
     let stepped = c.find.ensures.stepped in
-    moved_on g.S.Sources.view g.S.Sources.came_from c.views_are_kept.ensures l _ (g.met.S.Sources.keeps l.base c.find.new.base stepped.came) c.requires.sound c.args.view c.in-Some-index_mut.mediator c.find.new.view c.requires.view there refl
+    moved_on g.S.Sources.view g.S.Sources.came_from c.views_are_kept.ensures l _ (g.met.S.Sources.keeps l.base c.find.new.base stepped.came) c.requires.sound c.args.view c.in-Some-index_mut.walk c.find.new.view c.requires.view there refl
     stepped refl refl
 
 pub returns-in_err-list-clause-moved : goal.returns-in_err-list-clause-moved
 returns-in_err-list-clause-moved g c =
     let l = c.args.layers.now in
-    let there = read_view l.views.items c.args.view c.index_mut.result.now c.in-Some-index_mut.mediator c.requires.view c.index_mut.ensures.value c.in-Some-index_mut.is in
+    let there = read_view l.views.items c.args.view c.index_mut.result.now c.in-Some-index_mut.walk c.requires.view c.index_mut.ensures.value c.in-Some-index_mut.is in
     let stepped = c.find.ensures.stepped in
-    moved_on g.S.Sources.view g.S.Sources.came_from c.views_are_kept.ensures l _ (g.met.S.Sources.keeps l.base c.find.new.base stepped.came) c.requires.sound c.args.view c.in-Some-index_mut.mediator c.find.new.view c.requires.view there refl
+    moved_on g.S.Sources.view g.S.Sources.came_from c.views_are_kept.ensures l _ (g.met.S.Sources.keeps l.base c.find.new.base stepped.came) c.requires.sound c.args.view c.in-Some-index_mut.walk c.find.new.view c.requires.view there refl
     stepped refl refl
 
 pub returns-in_err-push-clause-moved : goal.returns-in_err-push-clause-moved
 returns-in_err-push-clause-moved g c =
     let l = c.args.layers.now in
-    let there = read_view l.views.items c.args.view c.index_mut.result.now c.in-Some-index_mut.mediator c.requires.view c.index_mut.ensures.value c.in-Some-index_mut.is in
+    let there = read_view l.views.items c.args.view c.index_mut.result.now c.in-Some-index_mut.walk c.requires.view c.index_mut.ensures.value c.in-Some-index_mut.is in
     let stepped = c.find.ensures.stepped in
-    moved_on g.S.Sources.view g.S.Sources.came_from c.views_are_kept.ensures l _ (g.met.S.Sources.keeps l.base c.find.new.base stepped.came) c.requires.sound c.args.view c.in-Some-index_mut.mediator c.find.new.view c.requires.view there refl
+    moved_on g.S.Sources.view g.S.Sources.came_from c.views_are_kept.ensures l _ (g.met.S.Sources.keeps l.base c.find.new.base stepped.came) c.requires.sound c.args.view c.in-Some-index_mut.walk c.find.new.view c.requires.view there refl
     stepped c.in_err-push.ensures.items refl
 
 pub returns-clause-moved : goal.returns-clause-moved
 returns-clause-moved g c =
     let l = c.args.layers.now in
-    let there = read_view l.views.items c.args.view c.index_mut.result.now c.in-Some-index_mut.mediator c.requires.view c.index_mut.ensures.value c.in-Some-index_mut.is in
+    let there = read_view l.views.items c.args.view c.index_mut.result.now c.in-Some-index_mut.walk c.requires.view c.index_mut.ensures.value c.in-Some-index_mut.is in
     let stepped = c.find.ensures.stepped in
     let found = rw c.in-Some-2.is at c.in_ok-found.ensures.found in
     let new : Served = record { view = c.args.view; node = c.in-Some-2.found.node } in
-    moved_at g.S.Sources.view g.S.Sources.came_from c.views_are_kept.ensures l _ (g.met.S.Sources.keeps l.base c.find.new.base stepped.came) c.requires.sound c.args.view c.in-Some-index_mut.mediator c.find.new.view c.requires.view there refl
+    moved_at g.S.Sources.view g.S.Sources.came_from c.views_are_kept.ensures l _ (g.met.S.Sources.keeps l.base c.find.new.base stepped.came) c.requires.sound c.args.view c.in-Some-index_mut.walk c.find.new.view c.requires.view there refl
     stepped (new ∷ []) c.in_ok-push.ensures.items ((refl, found.0), tt) refl
 
 pub returns-clause-answers : goal.returns-clause-answers
@@ -95,7 +95,7 @@ returns-clause-answers g c =
     let l = c.args.layers.now in
     let k = stacking_in g.S.Sources.view l in
     let k' = stacking_in g.S.Sources.view (record { base = c.find.new.base; views = with_item l.views c.args.view (Some c.find.new.view); served = c.push.new.self; fills = l.fills }) in
-    let m = c.in-Some-index_mut.mediator in
+    let m = c.in-Some-index_mut.walk in
     let there = read_view l.views.items c.args.view c.index_mut.result.now m c.requires.view c.index_mut.ensures.value c.in-Some-index_mut.is in
     let found = rw c.in-Some-2.is at c.in_ok-found.ensures.found in
     let new : Served = record { view = c.args.view; node = c.in-Some-2.found.node } in

@@ -4,9 +4,9 @@ use Rattle.std.proofs.lemmas.Option.{get_or_from_slice_get}
 use Rattle.plan_core.specs.PlanMade.{plan_value}
 use Rattle.lazy_plan.specs.Bench.{documents}
 use Rattle.mix_tree.specs.Place.{child_place, next_place}
-use Rattle.lazy_value.specs.Mediators.{state_of, plan_of}
-use Rattle.lazy_value.specs.Places.{GivesPlace}
-use Rattle.lazy_value.specs.Places as places
+use Rattle.lazy_walk.specs.Walks.{state_of, plan_of}
+use Rattle.lazy_walk.specs.Places.{GivesPlace}
+use Rattle.lazy_walk.specs.Places as places
 use Rattle.view_stack.specs.declared.layers.Served.{Served}
 use Rattle.view_stack.specs.declared.part.Part.TheVariants.{Below, After}
 use Rattle.view_stack.specs.Steps.{IsPartOf, Stands, GivesNode}
@@ -19,8 +19,8 @@ returns-in-Whole-clause-node g c =
     let m = c.args.view.now in
     let st = state_of v m in
     rw c.in-Whole.is
-    (gives_root st (c.trees_are_there.ensures st c.requires.mediator.valid) (c.valid_plans_have_documents.ensures (plan_value (plan_of m)) c.requires.mediator.valid (documents st))
-    c.args.served.now c.root.result (c.root.ensures v c.requires.mediator))
+    (gives_root st (c.trees_are_there.ensures st c.requires.walk.valid) (c.valid_plans_have_documents.ensures (plan_value (plan_of m)) c.requires.walk.valid (documents st))
+    c.args.served.now c.root.result (c.root.ensures v c.requires.walk))
 
 pub returns-in-Below-clause-stepped : goal.returns-in-Below-clause-stepped
 returns-in-Below-clause-stepped g c =
@@ -31,7 +31,7 @@ returns-in-Below-clause-stepped g c =
     let walked = c.down.ensures.walked in
     record {
       came = walked.came;
-      mediator = walked.mediator;
+      walk = walked.walk;
       kept = walked.kept;
       lazy = λ most costs told forward. (let asks = c.down.ensures.lazy at.0 at.1 told forward in let cost = (costs at.0).0 in omega (arith, asks, cost));
     }
@@ -51,8 +51,8 @@ returns-in-Below-clause-node g c =
     let walked = c.down.ensures.walked in
     rw c.in-Below.is
     (IfOk-both c.down.result (places.GivesNode st') (GivesPlace st st' (Some (child_place at.0))) (GivesNode st st' c.args.served.now (Below c.in-Below.node))
-    (gives_child st st' walked.kept (c.trees_are_there.ensures st c.requires.mediator.valid) (c.trees_are_there.ensures st' walked.mediator.valid)
-    (c.valid_plans_have_documents.ensures (plan_value (plan_of m)) c.requires.mediator.valid (documents st)) c.args.served.now c.in-Below.node (get_or c.args.served.now c.in-Below.node c.index-served-node.result) there at.0 at.1) c.down.ensures.node (c.down.ensures.place at.0 at.1))
+    (gives_child st st' walked.kept (c.trees_are_there.ensures st c.requires.walk.valid) (c.trees_are_there.ensures st' walked.walk.valid)
+    (c.valid_plans_have_documents.ensures (plan_value (plan_of m)) c.requires.walk.valid (documents st)) c.args.served.now c.in-Below.node (get_or c.args.served.now c.in-Below.node c.index-served-node.result) there at.0 at.1) c.down.ensures.node (c.down.ensures.place at.0 at.1))
 
 pub returns-in-After-clause-stepped : goal.returns-in-After-clause-stepped
 returns-in-After-clause-stepped g c =
@@ -63,7 +63,7 @@ returns-in-After-clause-stepped g c =
     let walked = c.right.ensures.walked in
     record {
       came = walked.came;
-      mediator = walked.mediator;
+      walk = walked.walk;
       kept = walked.kept;
       lazy = λ most costs told forward. (let asks = c.right.ensures.lazy at.0 at.1 told forward in let cost = (costs at.0).1 in omega (arith, asks, cost));
     }
@@ -83,5 +83,5 @@ returns-in-After-clause-node g c =
     let walked = c.right.ensures.walked in
     rw c.in-After.is
     (IfOk-both c.right.result (places.GivesNode st') (GivesPlace st st' (next_place at.0)) (GivesNode st st' c.args.served.now (After c.in-After.node))
-    (gives_next st st' walked.kept (c.trees_are_there.ensures st c.requires.mediator.valid) (c.trees_are_there.ensures st' walked.mediator.valid)
-    (c.valid_plans_have_documents.ensures (plan_value (plan_of m)) c.requires.mediator.valid (documents st)) c.args.served.now c.in-After.node (get_or c.args.served.now c.in-After.node c.index-served-node-in-After.result) there at.0 at.1) c.right.ensures.node (c.right.ensures.place at.0 at.1))
+    (gives_next st st' walked.kept (c.trees_are_there.ensures st c.requires.walk.valid) (c.trees_are_there.ensures st' walked.walk.valid)
+    (c.valid_plans_have_documents.ensures (plan_value (plan_of m)) c.requires.walk.valid (documents st)) c.args.served.now c.in-After.node (get_or c.args.served.now c.in-After.node c.index-served-node-in-After.result) there at.0 at.1) c.right.ensures.node (c.right.ensures.place at.0 at.1))

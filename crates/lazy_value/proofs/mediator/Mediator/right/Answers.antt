@@ -1,60 +1,46 @@
-use Rattle.plan_core.specs.PlanMade.{plan_value}
-use Rattle.lazy_plan.specs.Bench.{documents}
-use Rattle.lazy_plan.specs.Bench as bench
-use Rattle.lazy_value.specs.Mediators.{state_of, plan_of}
+use Rattle.std.proofs.Common.{refl, sym, ap, subst, ◌∙◌}
+use Rattle.mix_tree.specs.Place.{next_place}
+use Rattle.lazy_value.specs.declared.ids.MarkedText.{MarkedText}
 use Rattle.lazy_value.specs.declared.ids.NodeId.{NodeId}
-use Rattle.lazy_value.proofs.AboveSteps.{next_above, next_node}
-use Rattle.lazy_value.proofs.Walks.{mediator_walked}
-use Rattle.lazy_value.proofs.Placing.{right_asks, right_none, right_some}
+use Rattle.lazy_value.specs.declared.mediator.Mediator.{Mediator}
+use Rattle.lazy_value.specs.Named.{state_of, owed, owed_of, IsNamedAt, NamesAt}
+use Rattle.lazy_value.proofs.Keeping.{walked_alike, given_place}
 use Rattle.lazy_value.proofs.mediator.Mediator.right.Goals as goal
 
-pub returns-in_err-next_sibling-clause-walked : goal.returns-in_err-next_sibling-clause-walked
-returns-in_err-next_sibling-clause-walked g c = mediator_walked g.met.S.Sources.keeps c.args.s.now c.next_sibling.new.s c.args.self.now (record { bench = c.next_sibling.new.bench }) _ c.requires.mediator c.next_sibling.ensures.walked
+pub returns-in_err-right-in-Walked-clause-walked : goal.returns-in_err-right-in-Walked-clause-walked
+returns-in_err-right-in-Walked-clause-walked g c =
+    walked_alike g.met.S.Sources.keeps c.args.s.now c.right.new.s c.args.self.now (record { walk = c.right.new.self; found = c.args.self.now.found }) c.requires.mediator c.right.ensures.walked refl
 
-pub returns-in_err-next_sibling-clause-lazy : goal.returns-in_err-next_sibling-clause-lazy
-returns-in_err-next_sibling-clause-lazy g c = λ p h. right_asks (state_of (g.S.Sources.view c.args.s.now) c.args.self.now) (c.tolled_is_document.ensures (plan_value (plan_of c.args.self.now)) c.requires.mediator.valid (documents (state_of (g.S.Sources.view c.args.s.now) c.args.self.now))) c.args.n.now p h (bench.state_of (g.S.Sources.view c.next_sibling.new.s) c.next_sibling.new.bench) c.next_sibling.ensures.walked.asks
+pub returns-in_ok-right-in-Walked-clause-walked : goal.returns-in_ok-right-in-Walked-clause-walked
+returns-in_ok-right-in-Walked-clause-walked g c =
+    walked_alike g.met.S.Sources.keeps c.args.s.now c.right.new.s c.args.self.now (record { walk = c.right.new.self; found = c.args.self.now.found }) c.requires.mediator c.right.ensures.walked refl
 
-pub returns-in-None-clause-walked : goal.returns-in-None-clause-walked
-returns-in-None-clause-walked g c = mediator_walked g.met.S.Sources.keeps c.args.s.now c.next_sibling.new.s c.args.self.now (record { bench = c.next_sibling.new.bench }) _ c.requires.mediator c.next_sibling.ensures.walked
-
-pub returns-in-None-clause-lazy : goal.returns-in-None-clause-lazy
-returns-in-None-clause-lazy g c = λ p h. right_asks (state_of (g.S.Sources.view c.args.s.now) c.args.self.now) (c.tolled_is_document.ensures (plan_value (plan_of c.args.self.now)) c.requires.mediator.valid (documents (state_of (g.S.Sources.view c.args.s.now) c.args.self.now))) c.args.n.now p h (bench.state_of (g.S.Sources.view c.next_sibling.new.s) c.next_sibling.new.bench) c.next_sibling.ensures.walked.asks
-
-pub returns-in_err-above-in-Some-clause-walked : goal.returns-in_err-above-in-Some-clause-walked
-returns-in_err-above-in-Some-clause-walked g c = mediator_walked g.met.S.Sources.keeps c.args.s.now c.next_sibling.new.s c.args.self.now (record { bench = c.next_sibling.new.bench }) _ c.requires.mediator c.next_sibling.ensures.walked
-
-pub returns-in_ok-above-in-Some-clause-walked : goal.returns-in_ok-above-in-Some-clause-walked
-returns-in_ok-above-in-Some-clause-walked g c = mediator_walked g.met.S.Sources.keeps c.args.s.now c.next_sibling.new.s c.args.self.now (record { bench = c.next_sibling.new.bench }) _ c.requires.mediator c.next_sibling.ensures.walked
-
-pub returns-in_err-above-in-Some-clause-lazy : goal.returns-in_err-above-in-Some-clause-lazy
-returns-in_err-above-in-Some-clause-lazy g c = λ p h. right_asks (state_of (g.S.Sources.view c.args.s.now) c.args.self.now) (c.tolled_is_document.ensures (plan_value (plan_of c.args.self.now)) c.requires.mediator.valid (documents (state_of (g.S.Sources.view c.args.s.now) c.args.self.now))) c.args.n.now p h (bench.state_of (g.S.Sources.view c.next_sibling.new.s) c.next_sibling.new.bench) c.next_sibling.ensures.walked.asks
-
-pub returns-in_ok-above-in-Some-clause-lazy : goal.returns-in_ok-above-in-Some-clause-lazy
-returns-in_ok-above-in-Some-clause-lazy g c = λ p h. right_asks (state_of (g.S.Sources.view c.args.s.now) c.args.self.now) (c.tolled_is_document.ensures (plan_value (plan_of c.args.self.now)) c.requires.mediator.valid (documents (state_of (g.S.Sources.view c.args.s.now) c.args.self.now))) c.args.n.now p h (bench.state_of (g.S.Sources.view c.next_sibling.new.s) c.next_sibling.new.bench) c.next_sibling.ensures.walked.asks
-
-pub returns-in-None-clause-place : goal.returns-in-None-clause-place
-returns-in-None-clause-place g c = λ p h y. right_none (state_of (g.S.Sources.view c.args.s.now) c.args.self.now) (bench.state_of (g.S.Sources.view c.next_sibling.new.s) c.next_sibling.new.bench) c.next_sibling.ensures.walked.kept (c.tolled_is_document.ensures (plan_value (plan_of c.args.self.now)) c.requires.mediator.valid (documents (state_of (g.S.Sources.view c.args.s.now) c.args.self.now))) c.args.n.now p h (rw c.in-None.is at c.in_ok-next_sibling.ensures.answer) y
-
-pub returns-in_ok-above-in-Some-clause-node : goal.returns-in_ok-above-in-Some-clause-node
-returns-in_ok-above-in-Some-clause-node g c =
+pub returns-in_ok-right-in-Walked-clause-place : goal.returns-in_ok-right-in-Walked-clause-place
+returns-in_ok-right-in-Walked-clause-place g c = λ p at tells.
     let a = state_of (g.S.Sources.view c.args.s.now) c.args.self.now in
-    let b = bench.state_of (g.S.Sources.view c.next_sibling.new.s) c.next_sibling.new.bench in
-    let m : NodeId = record { site = c.in-Some.site; above = c.in_ok-above-in-Some.above } in
-    let there = rw c.in-Some.is at c.in_ok-next_sibling.ensures.answer in
-    let list = rw c.in-Some.is at c.in_ok-next_sibling.ensures.list in
-    let above = c.in_ok-above-in-Some.ensures in
-    next_node a b c.next_sibling.ensures.walked.kept c.args.n.now m c.requires.node list there.node above.rests above.top
+    let d = state_of (g.S.Sources.view c.right.new.s) (record { walk = c.right.new.self; found = c.args.self.now.found }) in
+    let here = subst (λ (n : NodeId). IsNamedAt a n p) c.in-Walked.is at in
+    given_place a d (next_place p) c.in_ok-right-in-Walked.field-0 c.walked.result c.walked.ensures (c.in_ok-right-in-Walked.ensures.place p here tells)
 
-pub returns-in_ok-above-in-Some-clause-place : goal.returns-in_ok-above-in-Some-clause-place
-returns-in_ok-above-in-Some-clause-place g c =
+pub returns-in_ok-right_marked-in-Marked-clause-place : goal.returns-in_ok-right_marked-in-Marked-clause-place
+returns-in_ok-right_marked-in-Marked-clause-place g c = λ p at tells.
     let a = state_of (g.S.Sources.view c.args.s.now) c.args.self.now in
-    let b = bench.state_of (g.S.Sources.view c.next_sibling.new.s) c.next_sibling.new.bench in
-    let m : NodeId = record { site = c.in-Some.site; above = c.in_ok-above-in-Some.above } in
-    let there = rw c.in-Some.is at c.in_ok-next_sibling.ensures.answer in
-    let list = rw c.in-Some.is at c.in_ok-next_sibling.ensures.list in
-    let above = c.in_ok-above-in-Some.ensures in
-    let kept = c.next_sibling.ensures.walked.kept in
-    let node = next_node a b kept c.args.n.now m c.requires.node list there.node above.rests above.top in
-    let known = c.requires.mediator in
-    λ p h y. right_some a b kept (c.tolled_is_document.ensures (plan_value (plan_of c.args.self.now)) known.valid (documents a)) c.args.n.now p h m there node
-    (next_above a b kept c.args.n.now m known.valid known.fixed.typed known.bench p h list there above.rests above.top y) y
+    let d = state_of (g.S.Sources.view c.right_marked.new.s) c.right_marked.new.self in
+    let there : NamesAt a c.in-Marked.marked.value p = subst (λ (n : NodeId). IsNamedAt a n p) c.in-Marked.is at in
+    let here : NamesAt a c.deref.result.now p = subst (λ (x : MarkedText). NamesAt a x p) (sym c.deref.ensures) there in
+    given_place a d (next_place p) c.in_ok-right_marked-in-Marked.field-0 c.walked-in-Marked.result c.walked-in-Marked.ensures (c.in_ok-right_marked-in-Marked.ensures.place p here tells)
+
+pub returns-in_ok-right-in-Walked-clause-paid : goal.returns-in_ok-right-in-Walked-clause-paid
+returns-in_ok-right-in-Walked-clause-paid g c = λ p at tells.
+    let o : Mediator = record { walk = c.right.new.self; found = c.args.self.now.found } in
+    let d = state_of (g.S.Sources.view c.right.new.s) o in
+    ap (λ (n : NodeId). owed d o n p) c.in-Walked.is
+
+pub returns-in_ok-right_marked-in-Marked-clause-paid : goal.returns-in_ok-right_marked-in-Marked-clause-paid
+returns-in_ok-right_marked-in-Marked-clause-paid g c = λ p at tells.
+    let a = state_of (g.S.Sources.view c.args.s.now) c.args.self.now in
+    let o : Mediator = c.right_marked.new.self in
+    let d = state_of (g.S.Sources.view c.right_marked.new.s) o in
+    let there : NamesAt a c.in-Marked.marked.value p = subst (λ (n : NodeId). IsNamedAt a n p) c.in-Marked.is at in
+    let here : NamesAt a c.deref.result.now p = subst (λ (x : MarkedText). NamesAt a x p) (sym c.deref.ensures) there in
+    ap (λ (n : NodeId). owed d o n p) c.in-Marked.is ∙ ap (λ (x : MarkedText). owed_of d o x p) (sym c.deref.ensures) ∙ c.in_ok-right_marked-in-Marked.ensures.paid p here tells

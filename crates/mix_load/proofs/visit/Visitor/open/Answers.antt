@@ -6,7 +6,7 @@ use Rattle.plan_core.specs.PlanMade.{plan_value}
 use Rattle.plan_core.specs.Plans.{PlanValue}
 use Rattle.plan_core.specs.declared.plan.Plan.{Plan}
 use Rattle.lazy_value.specs.declared.mediator.Mediator.{Mediator}
-use Rattle.lazy_value.specs.Mediators.{state_of}
+use Rattle.lazy_value.specs.Named.{state_of}
 use Rattle.mix_session.specs.Walks.{IsDocument}
 use Rattle.xmas_rule.specs.Rules.{RuleValue}
 use Rattle.plan_make.specs.Law.{MeansRule}

@@ -1,3 +1,0 @@
-pub mod Forming
-pub mod Keeping
-pub mod NamesFormed

@@ -1,5 +1,0 @@
-use Rattle.lazy_value.proofs.Placing.{nodes_stay}
-use Rattle.lazy_value.proofs.law.identifiers_stay.Goals as goal
-
-pub returns : goal.returns
-returns c = λ a b k. nodes_stay a b k

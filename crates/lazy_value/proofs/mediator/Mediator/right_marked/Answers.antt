@@ -1,0 +1,58 @@
+use Rattle.std.proofs.Common.{◌+◌, refl, sym, subst, arith}
+use Rattle.mix_tree.specs.Place.{next_place}
+use Rattle.lazy_plan.specs.Bench.{ops_of, documents, AsksAtMost}
+use Rattle.lazy_walk.specs.Finding.{root_height}
+use Rattle.lazy_walk.specs.Walks.{node_height}
+use Rattle.lazy_walk.specs.Places.{right_toll}
+use Rattle.lazy_value.specs.declared.mediator.Mediator.{Mediator}
+use Rattle.lazy_value.specs.Named.{state_of, owed_of}
+use Rattle.lazy_walk.proofs.Walking.{asks_twice, same_number}
+use Rattle.lazy_value.proofs.Keeping.{root_kept, stepped, place_since, found_at, no_higher_still, still_paid}
+use Rattle.lazy_value.proofs.mediator.Mediator.right_marked.Goals as goal
+
+pub right-requires-clause-node : goal.right-requires-clause-node
+right-requires-clause-node g c = (c.find.ensures.walked.mediator.found c.args.marked.now.text c.in-Some.node.now (sym c.in-Some.ensures.value)).node
+
+pub returns-in-Some-clause-walked : goal.returns-in-Some-clause-walked
+returns-in-Some-clause-walked g c =
+    stepped g.met.S.Sources.keeps g.met.S.Sources.after c.args.s.now c.find.new.s c.right.new.s c.args.self.now c.find.new.self (record { walk = c.right.new.self; found = c.find.new.self.found })
+    c.find.ensures.walked c.right.ensures.walked refl
+
+pub returns-in-Some-clause-lazy : goal.returns-in-Some-clause-lazy
+returns-in-Some-clause-lazy g c = λ p names tells forwards.
+    let a = state_of (g.S.Sources.view c.args.s.now) c.args.self.now in
+    let b = state_of (g.S.Sources.view c.find.new.s) c.find.new.self in
+    let d = state_of (g.S.Sources.view c.right.new.s) (record { walk = c.right.new.self; found = c.find.new.self.found }) in
+    let kept = c.find.ensures.walked.kept in
+    let k = c.args.marked.now in
+    let f = c.find.ensures.walked.mediator.found k.text c.in-Some.node.now (sym c.in-Some.ensures.value) in
+    let at = found_at a b d kept c.no_text_spells_two_nodes.ensures k c.requires.marked c.in-Some.node.now f tells p names in
+    asks_twice a b kept d (owed_of a c.args.self.now k p) (right_toll (documents a) (ops_of a) p) (owed_of a c.args.self.now k p + right_toll (documents a) (ops_of a) p) (c.find.ensures.found p names).0
+    (subst (AsksAtMost b d) (same_number a b kept (λ docs ops. right_toll docs ops p)) (c.right.ensures.lazy p at)) (omega arith) tells forwards
+
+pub returns-in-Some-clause-place : goal.returns-in-Some-clause-place
+returns-in-Some-clause-place g c = λ p names.
+    let a = state_of (g.S.Sources.view c.args.s.now) c.args.self.now in
+    let b = state_of (g.S.Sources.view c.find.new.s) c.find.new.self in
+    let d = state_of (g.S.Sources.view c.right.new.s) (record { walk = c.right.new.self; found = c.find.new.self.found }) in
+    let kept = c.find.ensures.walked.kept in
+    let k = c.args.marked.now in
+    let f = c.find.ensures.walked.mediator.found k.text c.in-Some.node.now (sym c.in-Some.ensures.value) in
+    place_since a b d kept (next_place p) c.right.result
+    (λ tells. c.right.ensures.place p (found_at a b d kept c.no_text_spells_two_nodes.ensures k c.requires.marked c.in-Some.node.now f tells p names))
+
+pub returns-in-Some-clause-height : goal.returns-in-Some-clause-height
+returns-in-Some-clause-height g c =
+    let a = state_of (g.S.Sources.view c.args.s.now) c.args.self.now in
+    let b = state_of (g.S.Sources.view c.find.new.s) c.find.new.self in
+    let d = state_of (g.S.Sources.view c.right.new.s) (record { walk = c.right.new.self; found = c.find.new.self.found }) in
+    let w = c.find.ensures.walked in
+    let f = w.mediator.found c.args.marked.now.text c.in-Some.node.now (sym c.in-Some.ensures.value) in
+    let h = f.height in
+    let same = root_kept g.met.S.Sources.keeps c.args.s.now c.find.new.s c.args.self.now c.find.new.self w.came c.requires.mediator w.kept in
+    no_higher_still d (node_height b c.in-Some.node.now) (root_height a) (omega (arith, h, same)) c.right.result c.right.ensures.height
+
+pub returns-in-Some-clause-paid : goal.returns-in-Some-clause-paid
+returns-in-Some-clause-paid g c = λ p names tells.
+    let o : Mediator = record { walk = c.right.new.self; found = c.find.new.self.found } in
+    still_paid (state_of (g.S.Sources.view c.right.new.s) o) o c.args.marked.now p c.in-Some.node.now (sym c.in-Some.ensures.value) c.right.result

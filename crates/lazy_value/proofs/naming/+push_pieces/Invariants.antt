@@ -1,5 +1,0 @@
-use Rattle.lazy_site.specs.Levels.{lists_in}
-use Rattle.lazy_value.proofs.naming.+push_pieces.Given as goal
-
-abbrev pub decreases-push_pieces : goal.decreases-push_pieces
-decreases-push_pieces l = lists_in l.rest.now.value

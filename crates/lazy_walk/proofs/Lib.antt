@@ -1,0 +1,17 @@
+pub mod AboveKept
+pub mod AboveSteps
+pub mod Childing
+pub mod Elements
+pub mod Following
+pub mod Kept
+pub mod LeadsHere
+pub mod Numbers
+pub mod OnWay
+pub mod OneWay
+pub mod Placing
+pub mod Pushed
+pub mod Saying
+pub mod Searching
+pub mod Splits
+pub mod Walking
+pub mod Walks

@@ -1,7 +1,0 @@
-use Rattle.std.proofs.Common.{◌≡◌, ◌+◌, drop, map}
-use Rattle.mix_script.specs.Steps.{steps_from, steps_of}
-use Rattle.mix_script.proofs.Reading.{after_steps}
-use Rattle.mix_script.proofs.script.read_script.Given as goal
-
-abbrev pub invariant-loop-before : goal.invariant-loop-before
-invariant-loop-before l = after_steps l.steps.items (steps_from (l.before + 1) (drop l.before (map (λ line. line.now) l.line-items))) ≡ steps_of l.text
