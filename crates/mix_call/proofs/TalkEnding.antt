@@ -1,5 +1,5 @@
 -- How a talk over a stack of views over sources ends.
-use Rattle.std.proofs.Common.{◌≡◌, ◌⊎◌, ◌+◌, ◌-◌, ◌^◌, ◌≤◌, inl, inr, ℕ, Bool, List, Option, Some, Result, Err, ap, arith, sym, subst, length}
+use Rattle.std.proofs.Common.{◌≡◌, inl, inr, ℕ, Bool, List, Result, arith, sym, subst, length}
 use Rattle.std.specs.List.{AllByRecursion}
 use Rattle.mix_io.specs.Input.{InputView}
 use Rattle.mix_io.specs.Views.{FilesView, SinkView}
@@ -9,8 +9,6 @@ use Rattle.mix_loop.specs.Loops.{StandIn}
 use Rattle.mix_reach.specs.Reach.{CameFrom, Reaching, view_of as reached}
 use Rattle.mix_reach.specs.Stores.{stores_of}
 use Rattle.mix_talk.specs.declared.fault.TalkFault.{TalkFault}
-use Rattle.mix_talk.specs.declared.fault.TalkFault.TheVariants.{OutOfMemory}
-use Rattle.plan_core.specs.declared.plan.Plan.{Plan}
 use Rattle.plan_core.specs.PlanMade.{plan_value}
 use Rattle.plan_core.specs.Valid.{HasSource}
 use Rattle.lazy_value.specs.Named.{state_of}

@@ -1,5 +1,5 @@
 -- A run pays for the nodes that texts named: as it begins, comes one step further, and ends.
-use Rattle.std.proofs.Common.{◌≡◌, ◌⊎◌, ◌∙◌, inl, inr, ℕ, ◌+◌, ◌≤◌, List, [], ◌∷◌, ◌++◌, cond, Option, Some, None, refl, ap, sym, subst, arith, append_assoc}
+use Rattle.std.proofs.Common.{◌≡◌, ◌⊎◌, inl, inr, ℕ, ◌+◌, ◌≤◌, List, [], ◌∷◌, ◌++◌, cond, Option, Some, None, refl, ap, sym, subst, arith, append_assoc}
 use Rattle.mix_base.proofs.Lists.{append_nil}
 use Rattle.node_text.specs.Node.{NodeValue}
 use Rattle.mix_script.specs.Names.{NamesOf, no_names, with_name}
@@ -20,7 +20,7 @@ use Rattle.mix_session.specs.Tolls.{toll_from}
 use Rattle.mix_session.proofs.Walking.{goes_on_twice}
 use Rattle.mix_lines.specs.Lines.{charge_named}
 use Rattle.mix_lines.specs.Written.{AreAt, IsAmong, IsHeldFor, IsPaidSoFar, sum_over}
-use Rattle.mix_lines.proofs.Paying.{given_both, held_given, held_places, still_at, owed_less, still_held, before_sum, before_charge, before_paid}
+use Rattle.mix_lines.proofs.Paying.{given_both, held_given, still_at, owed_less, still_held, before_sum, before_charge, before_paid}
 
 -- only a node to which a text was followed adds its walk charge
 no_charge : (charge : NodeValue → ℕ) (act : Act) (a : Answer) → (answer.Node ≡ a → ⊥) → charge_of charge act a ≡ 0

@@ -17,7 +17,7 @@ use Rattle.mix_session.specs.Meaning.{Course}
 use Rattle.mix_lines.specs.declared.fault.LinesFault.{LinesFault}
 use Rattle.mix_lines.specs.declared.fault.LinesFault.TheVariants.{SinkFailed, OutOfMemory}
 use Rattle.mix_lines.specs.Lines.{IsRun, IsLazy, EndsWithin, EndsBy, Ends}
-use Rattle.mix_lines.specs.Told.{AreLinesOn, AreFirstLinesOn, EndsOn, EndsUnmarked}
+use Rattle.mix_lines.specs.Told.{AreFirstLinesOn, EndsOn, EndsUnmarked}
 
 -- a prefix of lines is a prefix of the lines that begin with them
 prefix_of_more : (before after : Option (List ℕ)) (n : ℕ) (lines rest whole : List ℕ) → lines ++ rest ≡ whole → Appends before after (take n lines) → AppendsPrefix before after whole

@@ -1,13 +1,11 @@
 -- How the lines of a run over a stack of views end, where the sources below stand in for others that are reached.
-use Rattle.std.proofs.Common.{Some, ◌≡◌, ◌⊎◌, ◌+◌, ◌-◌, ◌^◌, ◌≤◌, inl, inr, ℕ, List, Option, Result, Err, ap, arith, sym, subst, length}
+use Rattle.std.proofs.Common.{◌≡◌, inl, inr, ℕ, List, Option, Result, Err, ap, arith, sym, subst, length}
 use Rattle.std.specs.List.{AllByRecursion}
-use Rattle.std.proofs.lemmas.List.{length-map}
 use Rattle.mix_io.specs.Views.{SinkView}
 use Rattle.mix_tree.specs.Nodes.{Documents}
 use Rattle.lxp_core.specs.View.{Keeps, View}
 use Rattle.mix_lines.specs.declared.fault.LinesFault.{LinesFault}
 use Rattle.mix_lines.specs.declared.fault.LinesFault.TheVariants.{OutOfMemory}
-use Rattle.mix_loop.specs.Loops.{StandIn}
 use Rattle.mix_reach.specs.Stores.{stores_of}
 use Rattle.plan_core.specs.declared.plan.Plan.{Plan}
 use Rattle.plan_core.specs.PlanMade.{plan_value}

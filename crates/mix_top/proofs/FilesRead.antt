@@ -5,7 +5,6 @@ use Rattle.mix_catalog.specs.declared.source.SourceSpec.{SourceSpec}
 use Rattle.mix_script.specs.declared.step.Step.{Step}
 use Rattle.mix_tree.specs.Forest.{LabelledTree}
 use Rattle.plan_core.specs.Plans.{Operator}
-use Rattle.view_class.specs.Reads.{reads_source}
 use Rattle.mix_place.specs.Placed.{SourceMayRead}
 use Rattle.mix_place.specs.Files.{IsCatalogFile, IsScript}
 use Rattle.mix_top.specs.Course.{PlanFile}
@@ -13,7 +12,6 @@ use Rattle.mix_place.specs.Documents.{SpellsTree, IsDocument}
 use Rattle.mix_top.specs.FilesRead.{WalkMayRead, FileMayRead, MayReadAfter, ScriptMayRead, RunMayRead}
 use Rattle.mix_place.specs.Reading.{ReadsAmong}
 use Rattle.mix_place.proofs.ReadingLaws.{reads_one, reads_twice, reads_wider}
-use Rattle.mix_place.proofs.ChosenLaws.{source_may_before}
 use Rattle.mix_place.proofs.PlaceLaws.{place_may_before}
 
 -- where the document of a walk was read and then its script, only what a walk may read was read

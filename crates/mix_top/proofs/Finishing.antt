@@ -1,5 +1,5 @@
 -- Each valid plan has a finished document, with a place for each text that steps follow.
-use Rattle.std.proofs.Common.{◌≡◌, ◌⊎◌, ◌∙◌, inl, inr, IsTrue, ℕ, Bool, true, false, List, [], ◌∷◌, Option, Some, None, refl, sym, subst}
+use Rattle.std.proofs.Common.{◌≡◌, ◌⊎◌, ◌∙◌, inl, inr, IsTrue, true, false, List, [], ◌∷◌, Some, refl, sym, subst}
 use Rattle.std.proofs.lemmas.Option.{same_Some}
 use Rattle.mix_tree.specs.Forest.{LabelledTree, alone}
 use Rattle.mix_tree.specs.Nodes.{Documents}
@@ -23,7 +23,7 @@ use Rattle.mix_script.specs.declared.step.Act.{Act}
 use Rattle.mix_script.specs.declared.step.Act.TheVariants.{Root, Move, Select, Fetch, Print, Id, At}
 use Rattle.mix_script.specs.declared.step.Step.{Step}
 use Rattle.mix_script.proofs.Namings.{plain_right}
-use Rattle.mix_top.specs.Finishing.{HasFinished, IsAnswerable, IsFinishedOf, PlansAreFinished}
+use Rattle.mix_top.specs.Finishing.{IsAnswerable, IsFinishedOf, PlansAreFinished}
 
 -- where of each text the right place is said, it is of those that steps follow
 all_right : (NamesAt : Naming) (f : Finished) → ((node : NodeValue) → IsSense NamesAt node (f.named node)) → (steps : List Step) → IsRight NamesAt f steps

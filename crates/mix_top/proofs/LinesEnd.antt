@@ -1,13 +1,13 @@
 -- How the lines of a run over sources end.
-use Rattle.std.proofs.Common.{Option, ◌≡◌, ◌∙◌, ◌+◌, ◌≤◌, IsTrue, inl, inr, ℕ, Bool, true, false, cond, List, [], ◌∷◌, ◌++◌, Result, Ok, Err, refl, ap, sym, subst, arith, length, take, take_all, append_assoc}
+use Rattle.std.proofs.Common.{Option, ◌≡◌, ◌∙◌, ◌+◌, ◌≤◌, inl, inr, ℕ, Bool, true, false, cond, List, [], ◌∷◌, ◌++◌, Result, Ok, Err, refl, ap, sym, subst, arith, length, take, take_all, append_assoc}
 use Rattle.mix_base.proofs.Lists.{append_nil, take_append}
-use Rattle.mix_io.specs.Views.{FilesView, SinkView}
+use Rattle.mix_io.specs.Views.{SinkView}
 use Rattle.mix_io.specs.Contents.{Appends}
-use Rattle.mix_reach.specs.Reach.{CameFrom, Reaching, view_of}
+use Rattle.mix_reach.specs.Reach.{CameFrom, Reaching}
 use Rattle.mix_reach.specs.Stores.{stores_of}
 use Rattle.plan_core.specs.PlanMade.{plan_value}
 use Rattle.xmas_read.specs.Results.{names_of_sources}
-use Rattle.lazy_plan.specs.Bench.{BenchState, ops_of, documents, forward}
+use Rattle.lazy_plan.specs.Bench.{BenchState}
 use Rattle.mix_script.specs.Allowed.{answer_lines, has_fault}
 use Rattle.mix_script.specs.Answers.{line_of}
 use Rattle.mix_script.specs.declared.answer.Answer.{Answer}
@@ -17,22 +17,19 @@ use Rattle.mix_lines.specs.Lines.{Ends, EndsBetween, EndsWithin, IsLazy, IsRun, 
 use Rattle.mix_lines.specs.declared.fault.LinesFault.{LinesFault}
 use Rattle.mix_lines.specs.declared.fault.LinesFault.TheVariants as lines_fault
 use Rattle.mix_session.specs.Meaning.{Course}
-use Rattle.mix_session.specs.Walks.{IsDocument, plan_course}
+use Rattle.mix_session.specs.Walks.{plan_course}
 use Rattle.lxp_core.specs.View.{View}
-use Rattle.mix_top.specs.Answered.{IsAnswered, all_told, in_order}
+use Rattle.mix_top.specs.Answered.{IsAnswered, in_order}
 use Rattle.mix_top.specs.Ends.{TookPrefix}
 use Rattle.mix_top.specs.declared.asked.Asked.{Asked}
 use Rattle.mix_top.specs.Finishing.{IsFinishedOf}
 use Rattle.mix_top.specs.Question.{Question, finished, naming}
-use Rattle.mix_place.specs.Placed.{ArePlaced}
 use Rattle.mix_top.specs.Running.{IsLinesEnd, LinesOver, by_fills, all_documents, placed_of, question}
-use Rattle.mix_place.specs.Plans.{IsPlanOver}
 use Rattle.mix_top.proofs.Answering.{Frugal, IsAnswering, IsManner, IsOver, answering, prefix_of, unanswered}
 use Rattle.mix_top.proofs.Sums.{none_counted}
 use Rattle.plan_core.specs.declared.plan.Plan.{Plan}
 use Rattle.mix_top.proofs.Lines.{nothing_of}
 use Rattle.mix_top.proofs.Noting.{lines_all, lines_begin}
-use Rattle.mix_top.proofs.ReadTables.{plan_within}
 use Rattle.mix_top.specs.Stops.{IsDoneAlong, end_of, outcome_of, outcome_status}
 
 -- the end of lines under equal names and steps is the same end

@@ -6,12 +6,12 @@ use Rattle.std.specs.Str.{bytes_eq}
 use Rattle.mix_tree.specs.Forest.{LabelledTree, alone}
 use Rattle.mix_tree.specs.Place.{has_place, tree_at}
 use Rattle.node_text.specs.Node.{NodeValue}
-use Rattle.mix_script.specs.Allowed.{Nodes, MayAnswer, MayFindRoot, MayPrint, MaySpell, MayFind, MayRead, WhereHeld, nodes_after, AreAnswers, answer_lines, note_of, notes_of}
+use Rattle.mix_script.specs.Allowed.{Nodes, MayAnswer, MayFindRoot, nodes_after, AreAnswers, answer_lines, note_of, notes_of}
 use Rattle.mix_script.specs.Answers.{line_of}
 use Rattle.mix_script.specs.Finished.{AreOf, IsTold}
 use Rattle.mix_script.specs.Names.{no_names, with_name}
 use Rattle.mix_script.specs.Trails.{with_named, names_with}
-use Rattle.mix_script.specs.Transcript.{AreNotes, Finished, IsRight, IsRightFor, IsSense, IsTextFor, IsTextOf, MayBeNoted, Names, Naming, Note, answer_of, answered, failed, goal_of, id_answer, if_held, label_answer, lines_from, may_fail, move_answer, named_answer, nothing, spelled, text_answer, transcript, unless_failed}
+use Rattle.mix_script.specs.Transcript.{AreNotes, Finished, IsRight, IsRightFor, IsSense, IsTextOf, MayBeNoted, Names, Naming, Note, answer_of, answered, failed, goal_of, if_held, label_answer, lines_from, may_fail, move_answer, nothing, spelled, transcript, unless_failed}
 use Rattle.mix_script.specs.declared.answer.Answer.{Answer}
 use Rattle.mix_script.specs.declared.answer.Answer.TheVariants as answer
 use Rattle.mix_script.specs.declared.step.Act.{Act}

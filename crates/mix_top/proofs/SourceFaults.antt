@@ -1,5 +1,5 @@
 -- How often sources that are reached failed: as often as what stands where their kinds say.
-use Rattle.std.proofs.Common.{false, ◌≡◌, ◌∙◌, ◌+◌, inl, inr, ℕ, true, List, Option, Some, None, refl, ap, sym, arith, slice_get}
+use Rattle.std.proofs.Common.{false, ◌≡◌, ◌∙◌, inl, inr, ℕ, true, List, Option, Some, ap, sym, arith, slice_get}
 use Rattle.mix_io.specs.Views.{FilesView}
 use Rattle.mix_catalog.specs.declared.source.SourceSpec.{SourceSpec}
 use Rattle.mix_catalog.specs.Sources.{base_of}
@@ -17,8 +17,6 @@ use Rattle.mix_place.specs.Mounting.{site_by}
 use Rattle.mix_place.specs.Placed.{ArePlaced}
 use Rattle.mix_place.specs.Views.{lower_of, needs}
 use Rattle.mix_place.proofs.SourceKinds.{each_is_one, far_is_apart, file_is_apart, table_is_apart}
-use Rattle.table_keep.specs.Views.{Declared}
-use Rattle.table_wrap.specs.Document.{declared_in}
 use Rattle.mix_top.specs.Answered.{far_faults, spec_faults, table_faults}
 use Rattle.mix_top.specs.Running.{placed_of}
 use Rattle.mix_top.proofs.Mounts.{site_is, table_mounted}

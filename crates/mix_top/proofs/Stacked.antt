@@ -1,5 +1,5 @@
 -- What a stack of views over sources is to what is asked of a run, where the sources stand in for others that are reached.
-use Rattle.std.proofs.Common.{◌≡◌, ◌⊎◌, ◌∙◌, ◌+◌, ◌-◌, ◌*◌, ◌^◌, ◌<◌, ◌≤◌, inl, inr, min, IsTrue, ℕ, zero, suc, Bool, true, false, ◌&&◌, cond, nat_lt, List, [], ◌∷◌, Option, Some, None, refl, ap, sym, subst, arith, length, map, option_map, slice_get, get_or}
+use Rattle.std.proofs.Common.{◌≡◌, ◌∙◌, ◌+◌, ◌-◌, ◌*◌, ◌^◌, ◌<◌, ◌≤◌, inl, inr, min, ℕ, zero, suc, Bool, true, false, ◌&&◌, cond, nat_lt, List, [], ◌∷◌, Option, Some, None, refl, ap, sym, subst, arith, length, option_map, slice_get, get_or}
 use Rattle.std.specs.List.{AllByRecursion, list_all, list_any}
 use Rattle.std.proofs.Math.Path.{fun_ext}
 use Rattle.std.proofs.lemmas.Bool.{cases_lt, or_left, or_right}
@@ -16,7 +16,7 @@ use Rattle.mix_catalog.specs.declared.source.SourceKind.TheVariants.{Bracket, Cs
 use Rattle.mix_catalog.specs.declared.source.SourceSpec.{SourceSpec}
 use Rattle.mix_catalog.specs.Grammar.{is_view}
 use Rattle.mix_catalog.specs.Sources.{base_of}
-use Rattle.lxp_core.specs.View.{View, Keeps, document as given}
+use Rattle.lxp_core.specs.View.{Keeps, document as given}
 use Rattle.far_keep.specs.declared.far_source.FarSource.{FarSource}
 use Rattle.mix_loop.specs.Loops.{StandIn}
 use Rattle.mix_reach.specs.Reach.{Reaching, came_keeps, view_of as reached}
@@ -24,7 +24,7 @@ use Rattle.mix_reach.specs.Stores.{stores_of}
 use Rattle.mix_place.specs.Documents.{far_in, is_file_of}
 use Rattle.mix_place.specs.Placed.{ArePlaced, IsViewPlaced, view_number}
 use Rattle.mix_place.specs.Views.{IsLower, lower_at, lower_of, needs, reads_lower, view_ops}
-use Rattle.mix_place.proofs.Bases.{base_there, base_whole, view_beyond}
+use Rattle.mix_place.proofs.Bases.{base_there}
 use Rattle.mix_place.proofs.SourceKinds.{each_is_one, far_is_apart, file_is_apart, table_is_apart, view_is_apart}
 use Rattle.table_keep.specs.Views.{Declared}
 use Rattle.table_wrap.specs.Document.{declared_in}
@@ -33,7 +33,7 @@ use Rattle.plan_core.specs.PlanMade.{plan_value}
 use Rattle.plan_core.specs.Plans.{Operator, document}
 use Rattle.plan_core.specs.Events.{visited}
 use Rattle.plan_core.specs.Valid.{HasSource}
-use Rattle.lazy_plan.specs.Bench.{BenchState, ops_of, documents}
+use Rattle.lazy_plan.specs.Bench.{ops_of, documents}
 use Rattle.lazy_plan.specs.Bench as bench
 use Rattle.lazy_binding.specs.Cursors.{IsRead}
 use Rattle.lazy_binding.specs.World.{reads}
@@ -43,7 +43,6 @@ use Rattle.lazy_value.specs.declared.mediator.Mediator.{Mediator}
 use Rattle.lazy_value.specs.Named.{state_of}
 use Rattle.mix_script.specs.Transcript.{Finished}
 use Rattle.mix_script.specs.declared.step.Step.{Step}
-use Rattle.mix_session.specs.Walks.{IsDocument}
 use Rattle.view_class.specs.Reads.{reads_source}
 use Rattle.view_stack.specs.Stacks.{Stacking, faults, forest, is_forward, is_told as view_told, names, plans_of, sum_below, tree_alone, view_at, view_of}
 use Rattle.view_stack.specs.Parts.{hole_of}
@@ -52,13 +51,13 @@ use Rattle.xmas_read.specs.Results.{names_of_sources}
 use Rattle.view_stack.specs.Steps.{AreOpen, AsksEach, Bounds, CostsAtMost, documents_of as given_documents}
 use Rattle.mix_top.specs.Answered.{IsFar, IsTable, MayFail, far_faults, faults_below, is_told, spec_faults, table_faults}
 use Rattle.mix_top.specs.Question.{AreCheap, IsPlanDocument, Question}
-use Rattle.mix_top.specs.Running.{all_documents, documents_of, lower_document, placed_of, question_of, with_views}
+use Rattle.mix_top.specs.Running.{all_documents, documents_of, lower_document, placed_of, question_of}
 use Rattle.mix_top.proofs.Answering.{IsOver, documents_told}
 use Rattle.mix_top.proofs.Mounts.{read_there}
 use Rattle.mix_top.proofs.Places.{less_is, more_is, ops_at}
 use Rattle.mix_top.proofs.ReadTables.{all_pass, is_read, plan_within, read_below}
 use Rattle.mix_top.proofs.SourceFaults.{spec_failed}
-use Rattle.mix_top.proofs.Sums.{RoseAtLeast, names_read, rose_at_least, spec_grows, stopped_rose, sums_rose}
+use Rattle.mix_top.proofs.Sums.{RoseAtLeast, names_read, rose_at_least, stopped_rose, sums_rose}
 
 -- the operators of a walk's plan, where there is a walk
 abbrev walk_ops : Option Walk → Option (List Operator)

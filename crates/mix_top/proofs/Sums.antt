@@ -1,5 +1,5 @@
 -- Sums of the counts of sources that rose.
-use Rattle.std.proofs.Common.{◌≡◌, ◌⊎◌, ◌+◌, ◌-◌, ◌*◌, ◌^◌, ◌<◌, ◌≤◌, inl, inr, min, ℕ, zero, suc, Bool, true, false, cond, List, [], Option, Some, None, refl, ap, arith, length, slice_get}
+use Rattle.std.proofs.Common.{◌≡◌, ◌⊎◌, ◌+◌, ◌-◌, ◌^◌, ◌<◌, ◌≤◌, inl, inr, min, ℕ, zero, suc, Bool, true, false, cond, List, [], Option, Some, None, refl, ap, arith, length, slice_get}
 use Rattle.std.proofs.Math.Path.{fun_ext}
 use Rattle.std.specs.List.{list_any}
 use Rattle.std.proofs.lemmas.Bool.{cases_lt}
@@ -16,10 +16,10 @@ use Rattle.table_wrap.specs.Document.{declared_in}
 use Rattle.plan_core.specs.Plans.{Operator}
 use Rattle.plan_core.specs.Shapes.{Shape, one_source, visits_below, pairs_up, passes_on, no_events, shape_of}
 use Rattle.lazy_binding.specs.Cursors.{source_number}
-use Rattle.view_class.specs.Reads.{op_reads, reads_source, shape_reads}
+use Rattle.view_class.specs.Reads.{reads_source, shape_reads}
 use Rattle.view_stack.specs.Stacks.{is_source, names, sum_below}
 use Rattle.view_stack.proofs.Faults.{sum_more}
-use Rattle.mix_top.specs.Answered.{faults_below, far_faults, spec_faults, table_faults}
+use Rattle.mix_top.specs.Answered.{far_faults, spec_faults, table_faults}
 use Rattle.mix_top.specs.Question.{Question}
 use Rattle.mix_top.proofs.Answering.{AreCounted}
 

@@ -20,7 +20,6 @@ use Rattle.mix_script.specs.declared.step.Step.{Step}
 use Rattle.mix_script.specs.declared.answer.Answer.{Answer}
 use Rattle.mix_script.specs.declared.answer.Answer.TheVariants as answer
 use Rattle.mix_script.proofs.Answering.{unmarked}
-use Rattle.plan_core.specs.Plans.{Operator}
 use Rattle.xmas_read.specs.Results.{names_of_sources}
 use Rattle.mix_top.specs.Answered.{IsNoFault, MayFail, RunsWithoutTablesAreUnmarked, all_told, is_far_told, is_spec_told, is_table_told, told_from}
 use Rattle.mix_place.specs.Documents.{far_in}

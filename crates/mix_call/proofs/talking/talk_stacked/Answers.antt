@@ -1,4 +1,4 @@
-use Rattle.std.proofs.Common.{◌≡◌, ◌∙◌, ◌+◌, List, Option, option_map, ap, arith, length, refl, sym, subst}
+use Rattle.std.proofs.Common.{◌∙◌, List, Option, option_map, ap, arith, length, refl, sym, subst}
 use Rattle.std.proofs.lemmas.List.{length-map}
 use Rattle.plan_core.specs.PlanMade.{plan_value}
 use Rattle.plan_core.specs.declared.plan.Plan.{Plan}
