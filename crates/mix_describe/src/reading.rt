@@ -1,6 +1,5 @@
 // The bytes of a file that is no database, and whether it is one.
-ghost use Rattle.std.specs.Prelude.{◌≡◌, ◌≤◌, ◌<◌, List, ℕ, length, vec_len, IfOk, IfSome, IsErrOf, false};
-ghost use Rattle.std.specs.List.{starts_with};
+ghost use Rattle.std.specs.Prelude.{◌≡◌, ◌≤◌, ◌<◌, List, ℕ, length, vec_len, IfOk, IfSome, IsErrOf, IsTrue, false};
 ghost use Rattle.mix_base.specs.Counts.{HasRisen};
 ghost use Rattle.mix_io.specs.Views.{KeepsFiles, ReadsOnly};
 ghost use Rattle.mix_describe.specs.Kinds.{IsContent, begins_as_database};
@@ -32,7 +31,8 @@ fn zeros(alloc: Global, count: usize) -> Result<Vec<u8>, AllocError>
 
 // Whether bytes begin as a database of SQLite does.
 fn begins_as_database(bytes: &[u8]) -> bool
-    ensures { result ≡ begins_as_database bytes.now }
+    ensures value { result ≡ begins_as_database bytes.now }
+    ensures bound { IsTrue result → 16 ≤ length bytes.now }
 {
     bytes.starts_with(MARK)
 }
