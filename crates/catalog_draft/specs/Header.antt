@@ -3,6 +3,8 @@ use Rattle.std.specs.Prelude.{◌≡◌, ◌⊎◌, ℕ, Bool, true, false, List
 use Rattle.std.specs.declared.alloc.Global.{Global}
 use Rattle.csv.specs.Records.{AllText}
 use Rattle.csv_wrap.specs.Csv.{file_records}
+use Rattle.csv_wrap.specs.declared.fault.CsvFault.{CsvFault}
+use Rattle.csv_wrap.specs.declared.fault.CsvFault.TheVariants.{HeaderDiffers, Length, NoHeader, OutOfMemory, NotUtf8 as RowNotUtf8}
 use Rattle.mix_catalog.specs.declared.source.SourceSpec.{SourceSpec}
 use Rattle.mix_catalog.specs.Seen.{csv}
 use Rattle.catalog_draft.specs.declared.reasons.Unsaid.{Unsaid}
@@ -46,3 +48,11 @@ SaysLine path header text = (line : List ℕ) × SaysHeader path header line × 
 abbrev pub SaysCsv : List ℕ → List ℕ → List ℕ → Type 0
 SaysCsv path bytes text =
     (header : List (List ℕ)) × (rows : List (List (List ℕ))) × (file_records bytes ≡ header ∷ rows) × SaysLine path header text
+
+-- a fault says why nothing is written of a CSV file: it has no record; want of memory says nothing of it
+abbrev pub LacksHeader : List ℕ → CsvFault → Type 0
+LacksHeader bytes NoHeader = file_records bytes ≡ []
+LacksHeader bytes (HeaderDiffers column) = ⊥
+LacksHeader bytes (Length row found wanted) = ⊥
+LacksHeader bytes (RowNotUtf8 row) = ⊥
+LacksHeader bytes OutOfMemory = Unit {0}

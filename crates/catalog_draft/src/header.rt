@@ -1,7 +1,6 @@
 // What is written of a CSV file.
 ghost use Rattle.std.specs.Prelude.{◌≡◌, [], ◌∷◌, ℕ, List, IfOk, IfErr};
-ghost use Rattle.csv_wrap.specs.Csv.{Explains};
-ghost use Rattle.catalog_draft.specs.Header.{AreFields, SaysCsv, SaysLine, csv_source, header_line};
+ghost use Rattle.catalog_draft.specs.Header.{AreFields, LacksHeader, SaysCsv, SaysLine, csv_source, header_line};
 ghost use Rattle.catalog_draft.specs.Lines.{file_note, text_of};
 
 use crate::lines::{Named, push_csv, push_file_note};
@@ -72,7 +71,7 @@ fn fields_text(
 /// `NoHeader`: the file has no record. `OutOfMemory` may come with any file, and no other error comes.
 pub fn describe_csv(alloc: Global, path: &Label, bytes: &[u8]) -> Result<Vec<u8>, CsvFault>
     ensures says { IfOk result (λ text. SaysCsv path.now bytes.now text.items) }
-    ensures refused { IfErr result (Explains bytes.now []) }
+    ensures refused { IfErr result (LacksHeader bytes.now) }
 {
     let mut found = ByteRecord::new(alloc);
     if !first_record(alloc, bytes, &mut found)? {

@@ -4,13 +4,14 @@ use case_text::Shape::{Nothing, Pieces, Words, WordsAndPieces};
 use case_text::Times::{Often, Once, OnceEach};
 
 /// The parts that a case of a command may have.
-pub const FORMS: [Form; 19] = [
+pub const FORMS: [Form; 20] = [
     Form("with", Words, OnceEach),
     Form("words", Words, Once),
     Form("file", WordsAndPieces, OnceEach),
     Form("input", WordsAndPieces, Once),
     Form("table", Words, Once),
     Form("row", Words, Often),
+    Form("schema", WordsAndPieces, OnceEach),
     Form("far", WordsAndPieces, Often),
     Form("reads", Words, Once),
     Form("takes", Words, Once),

@@ -1,5 +1,5 @@
-//! Runs the cases of texts, each a command over files, tables, an input and a sink in memory, and tells which are answered as they are
-//! wanted.
+//! Runs the cases of texts, each a command over files, tables, schemas, an input and a sink in memory, and tells which are answered as
+//! they are wanted.
 #![tactic(auto)]
 
 mod fails;
@@ -7,6 +7,7 @@ mod far;
 mod forms;
 mod judge;
 mod run;
+mod schemas;
 mod setting;
 
 use case_text::{Fault, Judge, Part, check_parts, run_texts};

@@ -1,12 +1,15 @@
 // A run of a case, and what differs of what it is wanted to leave.
 use crate::far::fars_of;
+use crate::schemas::schemas_of;
 use crate::setting::{Twist, failing, files_of, own_words, streams_of};
 use case_text::{Fault, Part, differing_line, differing_number, part_of, tables_of};
 use far_keep::MemFars;
 use mix_call::{mixq_over, mixq_serve_over};
+use mix_describe::mixq_describe;
 use mix_explain::mixq_explain;
 use mix_io::{MemFiles, MemInput, MemSink, Streams};
 use mix_reach::Stores;
+use schema_keep::MemSchemas;
 use std::alloc::Global;
 use table_keep::{MemTables, Tables};
 
@@ -26,8 +29,8 @@ pub struct Wanted<'a> {
     pub pages: Option<u64>,
 }
 
-// A top call alone, that of serving where the first word is `serve`, and that of explanations where it is `explain`: what it promises is not needed here, and would make the proof of each
-// function that knows it long.
+// A top call alone, that of serving where the first word is `serve`, and that of explanations where it is `explain`: what it promises is not needed here,
+// and would make the proof of each function that knows it long.
 fn call(
     alloc: Global,
     words: &[String],
@@ -46,9 +49,47 @@ fn call(
     }
 }
 
+// The top call of descriptions alone, for the same reason.
+fn describe(
+    alloc: Global,
+    words: &[String],
+    files: &mut MemFiles,
+    schemas: &mut MemSchemas,
+    out: &mut MemSink,
+) -> u8 {
+    mixq_describe(alloc, words, files, schemas, out)
+}
+
+// Runs a case whose words ask for a description. No page is asked.
+fn run_description(
+    alloc: Global,
+    parts: &[Part<'_>],
+    words: &[String],
+    twist: Twist<'_>,
+) -> Result<Outcome, Fault> {
+    let mut files = files_of(alloc, parts, twist)?;
+    let mut schemas = schemas_of(alloc, parts)?;
+    let mut streams = streams_of(alloc, parts, twist)?;
+    let status = describe(alloc, words, &mut files, &mut schemas, &mut streams.out);
+    let written = streams.out.bytes().to_vec(alloc)?;
+    Ok(Outcome {
+        status,
+        written,
+        pages: 0,
+    })
+}
+
+// Whether the first word asks for a description.
+fn asks_description(words: &[String]) -> bool {
+    matches!(words, [word, ..] if word.as_str() == "describe")
+}
+
 // Runs a case by a top call.
 fn run(alloc: Global, parts: &[Part<'_>], twist: Twist<'_>) -> Result<Outcome, Fault> {
     let words = own_words(alloc, parts)?;
+    if asks_description(&words) {
+        return run_description(alloc, parts, &words, twist);
+    }
     let mut files = files_of(alloc, parts, twist)?;
     let tables = tables_of(alloc, parts, failing(alloc, parts, "pages", twist)?)?;
     let fars = fars_of(alloc, parts)?;

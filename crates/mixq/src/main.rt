@@ -1,15 +1,16 @@
-//! The program `mixq`: the top calls over the files of the system, tables of SQLite files, sources of other machines behind two files each, standard
-//! input and standard output.
+//! The program `mixq`: the top calls over the files of the system, tables and schemas of SQLite files, sources of other machines behind two files each,
+//! standard input and standard output.
 #![tactic(auto)]
 
 use far_links::FarLinks;
 use file_dial::FileDial;
 use file_link::FileLink;
 use mix_call::{mixq_over, mixq_serve_over};
+use mix_describe::mixq_describe;
 use mix_explain::mixq_explain;
 use mix_io::{OsFiles, StdInput, StdSink, Streams};
 use mix_reach::Stores;
-use sqlite_tables::SqliteTables;
+use sqlite_tables::{SqliteSchemas, SqliteTables};
 use std::alloc::Global;
 use std::process::ExitCode;
 use std::{env, io};
@@ -23,8 +24,8 @@ fn words(rt: &HostRuntime) -> io::Result<Vec<String>> {
     Ok(words)
 }
 
-// The status of a top call, that of serving where the first word is `serve`, and that of explanations where it is `explain`. It stands apart, since what these calls promise would make the
-// proof of `main` long.
+// The status of a top call, that of serving where the first word is `serve`, and that of explanations where it is `explain`. It stands apart, since what
+// these calls promise would make the proof of `main` long.
 fn answer(
     alloc: Global,
     words: &[String],
@@ -44,6 +45,19 @@ fn answer(
     status
 }
 
+// The status of a description, which asks no stores and no input.
+fn describe(rt: HostRuntime, words: &[String]) -> u8 {
+    let mut files = OsFiles::new(rt);
+    let mut schemas = SqliteSchemas::new(rt);
+    let mut out = StdSink::new(rt);
+    mixq_describe(rt.alloc(), words, &mut files, &mut schemas, &mut out)
+}
+
+// Whether the first word asks for a description.
+fn asks_description(words: &[String]) -> bool {
+    matches!(words, [word, ..] if word.as_str() == "describe")
+}
+
 // Where memory runs out before the top call, the status is 6. A word that is no text makes the words a form of none, as no
 // words at all do.
 fn main(rt: HostRuntime) -> ExitCode {
@@ -52,6 +66,9 @@ fn main(rt: HostRuntime) -> ExitCode {
         Err(error) if error.kind() == io::ErrorKind::OutOfMemory => return ExitCode::from(6),
         Err(_) => Vec::new(rt.alloc()),
     };
+    if asks_description(&words) {
+        return ExitCode::from(describe(rt, &words));
+    }
     let alloc = rt.alloc();
     let mut files = OsFiles::new(rt);
     let mut streams = Streams {

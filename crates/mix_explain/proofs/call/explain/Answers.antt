@@ -1,5 +1,5 @@
+use Rattle.mix_top.proofs.CourseEnds.{course_ends}
 use Rattle.mix_explain.specs.Explained.{Explains}
-use Rattle.mix_explain.proofs.Ending.{course_ends}
 use Rattle.mix_explain.proofs.call.explain.Goals as goal
 
 pub returns-in-Ok-clause-ends : goal.returns-in-Ok-clause-ends

@@ -1,0 +1,4 @@
+pub mod Described
+pub mod Describes
+pub mod Kinds
+pub mod Words
