@@ -2,7 +2,7 @@
 use Rattle.std.specs.Prelude.{◌≡◌, ◌+◌, ◌<◌, ◌≤◌, ◌++◌, ℕ, zero, suc, IsTrue, Option, Some, None, MatchOption, List, [], ◌∷◌, Result, IfOk, length, option_and_then}
 use Rattle.std.specs.List.{last_or}
 use Rattle.mix_tree.specs.Nodes.{Documents}
-use Rattle.node_text.specs.Node.{LevelValue}
+use Rattle.node_text.specs.Node.{LevelValue, NodeValue}
 use Rattle.lxp_core.specs.View.{View}
 use Rattle.lxp_core.specs.declared.fault.WalkFault.{WalkFault}
 use Rattle.plan_core.specs.declared.plan.Piece.{Piece}
@@ -11,7 +11,6 @@ use Rattle.plan_core.specs.Plans.{Operator}
 use Rattle.plan_evidence.specs.Named.{maker, element_list, list_of, outer_of, IsOuter, Leads, Listing, Names, Reached}
 use Rattle.plan_evidence.specs.Opened.{Enters}
 use Rattle.lazy_follow.specs.declared.evidence.Evidence.{Evidence}
-use Rattle.lazy_follow.specs.declared.mark.Mark.{Mark}
 use Rattle.lazy_follow.specs.Following.{list_in}
 use Rattle.lazy_plan.specs.Bench.{BenchState, ops_of, documents, told, AsksAtMost}
 use Rattle.lazy_steps.specs.Steps.{HasCause}
@@ -20,7 +19,10 @@ use Rattle.lazy_site.specs.declared.sites.Site.TheVariants.{Root}
 use Rattle.lazy_walk.specs.declared.finding.Led.{Led}
 use Rattle.lazy_walk.specs.declared.finding.LevelsAhead.{LevelsAhead}
 use Rattle.lazy_walk.specs.declared.ids.WalkedNode.{WalkedNode}
+use Rattle.lazy_walk.specs.declared.stage.Passed.{Passed}
+use Rattle.lazy_walk.specs.declared.stage.Stage.{Stage}
 use Rattle.lazy_walk.specs.Leading.{AreOfChosen, Lead}
+use Rattle.lazy_walk.specs.Stages.{IsStage, NamesNoneBetween, part_of, size_of, whole_size}
 use Rattle.lazy_walk.specs.declared.walk.Walk.{Walk}
 use Rattle.lazy_walk.specs.Walks.{state_of, node_height, HasLower, HasNoHigher, HasWalked}
 use Rattle.lazy_walk.specs.Places.{IsNode, GivesNode, IsAt, HasPlace, down_toll, right_toll}
@@ -150,11 +152,37 @@ FindsBelow old new n path result =
     (q : List ℕ) → IsAt old n q → HasPlace old (q ++ path)
     → AsksAtMost old new (charge_below (documents old) (ops_of old) q path) × FindsNode new (q ++ path) result
 
--- over told sources, where a mark's text names a place, the node there is found by at most the place's walk charge
-abbrev pub FindsMark : BenchState → BenchState → Mark → Result (Option WalkedNode) WalkFault → Type 0
-FindsMark old new mark result =
-    (p : List ℕ) → Names (documents old) (ops_of old) mark.data p
-    → AsksAtMost old new (walk_charge (documents old) (ops_of old) p) × FindsNode new p result
+-- a node on the way of a text was found below another, and more of the text leads to it
+pub record IsFurther (old new : BenchState) (n : WalkedNode) (d : NodeValue) (from : Stage) (x : Passed) : Type 0 where
+  pub node : IsNode new x.node
+  pub lower : node_height new x.node < node_height old n
+  pub stage : IsStage d x.stage
+  pub more : size_of from < size_of x.stage
+
+-- a call answers no node, or one that is further on the way of a text
+abbrev pub GivesFurther : BenchState → BenchState → WalkedNode → NodeValue → Stage → Option Passed → Type 0
+GivesFurther old new n d from r = MatchOption r (Unit {0}) (IsFurther old new n d from)
+
+-- a node on the way of a text stands at the place that the part of the text names which leads to it, and no smaller part names a node behind the one it was found from
+pub record IsNextNamed (old new : BenchState) (d : NodeValue) (from : Stage) (place : List ℕ) (x : Passed) : Type 0 where
+  pub at : IsAt new x.node place
+  pub names : Names (documents old) (ops_of old) (part_of d x.stage) place
+  pub next : NamesNoneBetween (documents old) (ops_of old) d from x.stage
+
+-- from the node at place q to which a part of a text leads, the next one on the way to place p is found by what the steps to it cost
+pub record LeadsFurther (old new : BenchState) (d : NodeValue) (from : Stage) (q p : List ℕ) (result : Result (Option Passed) WalkFault) : Type 0 where
+  pub index : ℕ
+  pub rest : List ℕ
+  pub is : p ≡ q ++ index ∷ rest
+  pub asks : AsksAtMost old new (child_charge (documents old) (ops_of old) q index)
+  pub finds : IfOk result (λ r. MatchOption r ⊥ (IsNextNamed old new d from (q ++ index ∷ [])))
+
+-- over told sources, where a part of a text names the node at which an identifier stands, and the whole text, of which more is ahead, names another, a call finds the
+-- next node on the way
+abbrev pub GoesOnTo : BenchState → BenchState → WalkedNode → NodeValue → Stage → Result (Option Passed) WalkFault → Type 0
+GoesOnTo old new n d from result =
+    (q p : List ℕ) → IsAt old n q → Names (documents old) (ops_of old) (part_of d from) q → Names (documents old) (ops_of old) d p → size_of from < whole_size d
+    → LeadsFurther old new d from q p result
 
 -- WHAT CALLS COME TO
 

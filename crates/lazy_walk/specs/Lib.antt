@@ -4,3 +4,4 @@ pub mod Kept
 pub mod Leading
 pub mod Walks
 pub mod Places
+pub mod Stages

@@ -1,8 +1,8 @@
-// The node that a text names, found by steps from the root.
-ghost use Rattle.std.specs.Prelude.{◌≡◌, ◌≤◌, drop, length};
+// The way to the node that a text names, found node by node.
 
 use crate::ids::WalkedNode;
 use crate::leading::levels_led;
+use crate::stage::{Passed, Stage};
 use crate::walk::Walk;
 use lazy_follow::{Evidence, Mark};
 use lazy_plan::WalkFault;
@@ -26,18 +26,28 @@ pub(crate) struct Led {
     pub(crate) count: usize,
 }
 
-/// The levels behind the first so many of some.
-fn levels_behind<'a>(ahead: &LevelsAhead<'a>, count: usize) -> LevelsAhead<'a>
-    requires levels { count ≤ length ahead.now.levels.now }
-    requires members { count ≤ length ahead.now.members.now }
-    ensures levels { result.levels.now ≡ drop count ahead.now.levels.now }
-    ensures members { result.members.now ≡ drop count ahead.now.members.now }
-{
-    let levels = ahead.levels;
-    let members = ahead.members;
-    LevelsAhead {
-        levels: &levels[count..],
-        members: &members[count..],
+/// The node to which more levels lead, as one on the way.
+fn passed_levels(led: Option<Led>, from: Stage) -> Option<Passed> {
+    match led {
+        None => None,
+        Some(led) => {
+            let levels = from.levels + led.count;
+            let stage = Stage { levels, steps: 0 };
+            Some(Passed { node: led.node, stage })
+        }
+    }
+}
+
+/// The node to which one more step below the levels leads, as one on the way.
+fn passed_step(child: Option<WalkedNode>, from: Stage) -> Option<Passed> {
+    match child {
+        None => None,
+        Some(node) => {
+            let levels = from.levels;
+            let steps = from.steps + 1;
+            let stage = Stage { levels, steps };
+            Some(Passed { node, stage })
+        }
     }
 }
 
@@ -47,9 +57,10 @@ impl Walk {
     ghost use Rattle.lazy_follow.specs.Marks.{AreMembers, IsMark};
     ghost use Rattle.lazy_plan.specs.Bench.{ops_of, told};
     ghost use Rattle.lazy_steps.specs.Steps.{HasCause};
-    ghost use Rattle.lazy_walk.specs.Finding.{ChildLed, FindsMark, LeadsToNode, NodeLed, SiblingLed, Steps, root_height};
-    ghost use Rattle.lazy_walk.specs.Walks.{state_of, HasNoHigher, IsWalkOf, HasWalked};
-    ghost use Rattle.lazy_walk.specs.Places.{IsNode, GivesNode};
+    ghost use Rattle.lazy_walk.specs.Finding.{ChildLed, GivesFurther, GoesOnTo, LeadsToNode, SiblingLed, Steps};
+    ghost use Rattle.lazy_walk.specs.Stages.{IsStage};
+    ghost use Rattle.lazy_walk.specs.Walks.{state_of, IsWalkOf, HasWalked};
+    ghost use Rattle.lazy_walk.specs.Places.{IsNode};
 
     /// How many of the levels ahead lead to a node within its list; `None` where they lead to another node of it.
     fn levels_led_to(&self, n: &WalkedNode, ahead: &LevelsAhead<'_>) -> Option<usize>
@@ -112,61 +123,42 @@ impl Walk {
         }
     }
 
-    /// The node to which all of the levels ahead lead from a node on; `None` where they don't lead on.
-    fn node_led<S: Sources>(
+    /// The next node on the way to the one that a text names, from a node to which a part of the text leads: a child of it. `None`: none is further on the
+    /// way, or, over sources that tell their documents, the text names no node. `at` will stand on it. `Failed`: this source failed. Every earlier identifier
+    /// stays, whatever is answered.
+    pub fn led_on<S: Sources>(
         &mut self,
         alloc: Global,
         s: &mut S,
-        n: WalkedNode,
-        ahead: &LevelsAhead<'_>,
-    ) -> Result<Option<WalkedNode>, WalkFault>
-        requires walk { IsWalkOf (S.view s.old) self.old }
-        requires node { IsNode (state_of (S.view s.old) self.old) n }
-        requires members { AreMembers (state_of (S.view s.old) self.old) ahead.now.levels.now ahead.now.members.now }
-        ensures { Steps S.view S.came_from s.old self.old s.new self.new (NodeLed n ahead.now) result }
-    {
-        if ahead.levels.is_empty() {
-            return Ok(Some(n));
-        }
-        match self.child_led(alloc, s, &n, ahead)? {
-            None => Ok(None),
-            Some(led) => {
-                let behind = levels_behind(ahead, led.count);
-                self.node_led(alloc, s, led.node, &behind)
-            }
-        }
-    }
-
-    /// The node that a text names, by the mark that is kept of it: found again by steps from the root, along the levels and then along the place below.
-    /// `at` will stand on it. `None`: over sources that tell their documents, that the text names no node. `Failed`: this source failed. Every earlier
-    /// identifier stays, whatever is answered.
-    pub fn found<S: Sources>(
-        &mut self,
-        alloc: Global,
-        s: &mut S,
+        n: &WalkedNode,
         mark: &Mark,
-    ) -> Result<Option<WalkedNode>, WalkFault>
+        from: Stage,
+    ) -> Result<Option<Passed>, WalkFault>
         requires walk { IsWalkOf (S.view s.old) self.old }
+        requires node { IsNode (state_of (S.view s.old) self.old) n.now }
         requires mark { IsMark (state_of (S.view s.old) self.old) mark.now }
+        requires stage { IsStage mark.now.data from }
         ensures walked { HasWalked S.view S.came_from s.old self.old s.new self.new }
         ensures cause { HasCause (ops_of (state_of (S.view s.old) self.old)) (S.view s.old) (S.view s.new) result }
-        ensures node { IfOk result (GivesNode (state_of (S.view s.new) self.new)) }
-        ensures height { let old = state_of (S.view s.old) self.old in IfOk result (HasNoHigher (root_height old) (state_of (S.view s.new) self.new)) }
-        ensures found { let old = state_of (S.view s.old) self.old in let new = state_of (S.view s.new) self.new in
-            IsTrue (told old) → FindsMark old new mark.now result }
+        ensures further { let old = state_of (S.view s.old) self.old in let new = state_of (S.view s.new) self.new in
+            IfOk result (GivesFurther old new n.now mark.now.data from) }
+        ensures leads { let old = state_of (S.view s.old) self.old in let new = state_of (S.view s.new) self.new in
+            IsTrue (told old) → GoesOnTo old new n.now mark.now.data from result }
     {
         tolled_is_document();
-        let ahead = LevelsAhead {
-            levels: &mark.data.levels,
-            members: &mark.members,
-        };
-        let root = WalkedNode {
-            site: Site::Root,
-            above: None,
-        };
-        match self.node_led(alloc, s, root, &ahead)? {
-            None => Ok(None),
-            Some(top) => self.node_below(alloc, s, top, mark.data.inside.steps()),
+        let levels: &[Level] = &mark.data.levels;
+        let members: &[Option<Evidence>] = &mark.members;
+        if from.levels < levels.len() {
+            let ahead = LevelsAhead {
+                levels: &levels[from.levels..],
+                members: &members[from.levels..],
+            };
+            return Ok(passed_levels(self.child_led(alloc, s, n, &ahead)?, from));
         }
+        let steps = mark.data.inside.steps();
+        if from.steps == steps.len() {
+            return Ok(None);
+        }
+        Ok(passed_step(self.child_at(alloc, s, n, steps[from.steps])?, from))
     }
 }

@@ -8,6 +8,7 @@ mod law;
 mod leading;
 mod marking;
 mod naming;
+mod stage;
 mod stepping;
 mod walk;
 
@@ -16,4 +17,5 @@ pub use law::{
     identifiers_stay, trees_are_there, trees_stay, valid_plans_have_documents, walks_are_kept,
 };
 pub use lazy_plan::WalkFault;
+pub use stage::{Passed, Stage};
 pub use walk::Walk;

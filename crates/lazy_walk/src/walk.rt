@@ -27,6 +27,7 @@ impl Walk {
     ghost use Rattle.plan_evidence.specs.Named.{Names};
     ghost use Rattle.lazy_plan.specs.Bench.{documents, ops_of, told, AsksAtMost};
     ghost use Rattle.lazy_steps.specs.Steps.{HasCause};
+    ghost use Rattle.lazy_walk.specs.Finding.{root_height};
     ghost use Rattle.lazy_walk.specs.Places.{IsNode, IsAt, GivesNode, down_toll, right_toll};
     ghost use Rattle.lazy_walk.specs.Walks.{state_of, plan_of, node_left, node_height, HasFewer, HasLower, HasNoHigher, LeadsTo, IsLabelOf, IsWalkOf, HasWalked};
 
@@ -45,7 +46,8 @@ impl Walk {
     /// The root of the document. No fill is asked.
     pub fn root(&self) -> WalkedNode
         requires walk { (view : View) × IsWalkOf view self.now }
-        ensures { (view : View) → IsWalkOf view self.now → IsAt (state_of view self.now) result [] }
+        ensures place { (view : View) → IsWalkOf view self.now → IsAt (state_of view self.now) result [] }
+        ensures height { (view : View) → node_height (state_of view self.now) result ≡ root_height (state_of view self.now) }
     {
         WalkedNode {
             site: Site::Root,

@@ -20,7 +20,7 @@ returns-in-Whole-clause-node g c =
     let st = state_of v m in
     rw c.in-Whole.is
     (gives_root st (c.trees_are_there.ensures st c.requires.walk.valid) (c.valid_plans_have_documents.ensures (plan_value (plan_of m)) c.requires.walk.valid (documents st))
-    c.args.served.now c.root.result (c.root.ensures v c.requires.walk))
+    c.args.served.now c.root.result (c.root.ensures.place v c.requires.walk))
 
 pub returns-in-Below-clause-stepped : goal.returns-in-Below-clause-stepped
 returns-in-Below-clause-stepped g c =
