@@ -1,3 +1,4 @@
+pub mod Finding
 pub mod Forms
 pub mod Named
 pub mod Steps

@@ -12,7 +12,9 @@ use Rattle.plan_evidence.specs.Named.{Names}
 use Rattle.lazy_follow.specs.Marks.{IsMark}
 use Rattle.lazy_plan.specs.Bench.{BenchState, ops_of, documents, told, KeepsBench}
 use Rattle.lazy_walk.specs.declared.ids.WalkedNode.{WalkedNode}
+use Rattle.lazy_walk.specs.declared.stage.Stage.{Stage}
 use Rattle.lazy_walk.specs.Finding.{root_height, walk_charge}
+use Rattle.lazy_walk.specs.Stages.{IsStage, part_of}
 use Rattle.lazy_walk.specs.Walks as walks
 use Rattle.lazy_walk.specs.Walks.{node_height, node_left}
 use Rattle.lazy_walk.specs.Places.{IsNode, IsAt}
@@ -20,14 +22,17 @@ use Rattle.lazy_value.specs.declared.ids.MarkedText.{MarkedText}
 use Rattle.lazy_value.specs.declared.ids.NodeId.{NodeId}
 use Rattle.lazy_value.specs.declared.ids.NodeId.TheVariants.{Walked, Marked}
 use Rattle.lazy_value.specs.declared.mediator.Mediator.{Mediator}
+use Rattle.lazy_value.specs.Forms.{SpellsRoot}
 
 -- IDENTIFIERS
 
--- a text that was followed: its mark is there, it is the text of what the mark says, and the plan's operators use what their inputs hold alone
+-- a text that was followed: its mark is there, it is the text of what the mark says, the plan's operators use what their inputs hold alone, and over told
+-- sources it names a node
 pub record IsMarkedText (st : BenchState) (t : MarkedText) : Type 0 where
   pub mark : IsMark st t.mark
   pub spells : Spells t.text t.mark.data
   pub uses : UsesHeld (ops_of st)
+  pub names : IsTrue (told st) → (p : List ℕ) × Names (documents st) (ops_of st) t.mark.data p
 
 -- an identifier is one of the mediator: one that a walk gave, or a text that was followed
 abbrev pub IsNamed : BenchState → NodeId → Type 0
@@ -46,12 +51,13 @@ IsNamedAt st (Marked t) p = NamesAt st t.value p
 
 -- WHAT WALKS FOUND
 
--- a walk found a node of a text: over told sources it stands where the text names a node
+-- a walk found a node of a text: over told sources the text names a node, and it stands there
 pub record IsFoundFor (st : BenchState) (text : List ℕ) (n : WalkedNode) : Type 0 where
   pub says : NodeValue
   pub spells : Spells text says
   pub node : IsNode st n
   pub height : node_height st n ≤ root_height st
+  pub names : IsTrue (told st) → (p : List ℕ) × Names (documents st) (ops_of st) says p
   pub place : IsTrue (told st) → (p : List ℕ) → Names (documents st) (ops_of st) says p → IsAt st n p
 
 -- the node that a walk found of a text, if one did
@@ -61,6 +67,21 @@ found_for m text = get (slice_cmp nat_cmp) m.found text
 -- what walks have found stands where the texts name nodes
 abbrev pub AreFound : BenchState → Mediator → Type 0
 AreFound st m = (text : List ℕ) (n : WalkedNode) → found_for m text ≡ Some n → IsFoundFor st text n
+
+-- a walk found the node of a text
+abbrev pub WasFound : Mediator → List ℕ → Type 0
+WasFound m text = IsTrue (is_some (found_for m text))
+
+-- the root was found, for any text that spells it
+abbrev pub HasRoot : Mediator → Type 0
+HasRoot m = (text : List ℕ) → SpellsRoot text → WasFound m text
+
+-- what a walk found is shared by all texts on whose way it lies: over told sources, where the node of a text was found, so was that of each part of it that
+-- names one
+abbrev pub AreShared : BenchState → Mediator → Type 0
+AreShared st m =
+    IsTrue (told st) → (text : List ℕ) (d : NodeValue) → Spells text d → WasFound m text → (stage : Stage) → IsStage d stage
+    → (p : List ℕ) → Names (documents st) (ops_of st) (part_of d stage) p → (part : List ℕ) → Spells part (part_of d stage) → WasFound m part
 
 -- STATES
 
@@ -76,6 +97,8 @@ plan_of m = walks.plan_of m.walk
 pub record IsMediatorOf (v : View) (m : Mediator) : Type 0 where
   pub walk : walks.IsWalkOf v m.walk
   pub found : AreFound (state_of v m) m
+  pub root : HasRoot m
+  pub shared : AreShared (state_of v m) m
 
 -- a walk led to an identifier's node
 abbrev pub IsWalkedTo : NodeId → Type 0
@@ -122,5 +145,5 @@ pub record NamedWalked {S : Type 0} (view : S → View) (came_from : S → S →
   pub mediator : IsMediatorOf (view s') m'
   pub kept : KeepsBench (state_of (view s) m) (state_of (view s') m')
   pub stay : NamedStay (state_of (view s) m) (state_of (view s') m')
-  pub found : (text : List ℕ) → IsTrue (is_some (found_for m text)) → IsTrue (is_some (found_for m' text))
+  pub found : (text : List ℕ) → WasFound m text → WasFound m' text
   pub owed : OwesNoMore (state_of (view s) m) m (state_of (view s') m') m'

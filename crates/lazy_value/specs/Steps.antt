@@ -1,18 +1,20 @@
 -- What calls answer, and what they ask.
-use Rattle.std.specs.Prelude.{◌≡◌, ◌≤◌, ◌<◌, ℕ, IsTrue, List, Option, Some, MatchOption, Result, IfOk, is_some}
+use Rattle.std.specs.Prelude.{◌≡◌, ◌≤◌, ◌<◌, ℕ, IsTrue, List, Option, Some, MatchOption, Result, IfOk}
 use Rattle.lxp_core.specs.declared.fault.WalkFault.{WalkFault}
 use Rattle.node_text.specs.Node.{NodeValue}
 use Rattle.plan_evidence.specs.Named.{Names}
-use Rattle.lazy_plan.specs.Bench.{BenchState, ops_of, documents, told, AsksAtMost}
+use Rattle.lazy_plan.specs.Bench.{BenchState, ops_of, documents, told}
 use Rattle.lazy_walk.specs.declared.ids.WalkedNode.{WalkedNode}
+use Rattle.lazy_walk.specs.declared.stage.Stage.{Stage}
 use Rattle.lazy_walk.specs.Finding.{root_height}
+use Rattle.lazy_walk.specs.Stages.{IsStage, part_of}
 use Rattle.lazy_walk.specs.Walks.{node_height, node_left}
 use Rattle.lazy_walk.specs.Places.{HasNoPlace, HasPlace}
 use Rattle.lazy_value.specs.declared.ids.MarkedText.{MarkedText}
 use Rattle.lazy_value.specs.declared.ids.NodeId.{NodeId}
 use Rattle.lazy_value.specs.declared.ids.NodeId.TheVariants.{Walked, Marked}
 use Rattle.lazy_value.specs.declared.mediator.Mediator.{Mediator}
-use Rattle.lazy_value.specs.Named.{IsNamed, IsNamedAt, NamesAt, found_for, named_height, owed, owed_of}
+use Rattle.lazy_value.specs.Named.{IsNamed, IsNamedAt, NamesAt, named_height, owed, owed_of}
 
 -- a call answers no node, or an identifier of the mediator
 abbrev pub GivesNamed : BenchState → Option NodeId → Type 0
@@ -36,13 +38,6 @@ GivesText old new d r =
     MatchOption r (IsTrue (told old) → (p : List ℕ) → Names (documents old) (ops_of old) d p → ⊥)
     (λ n. IsNamed new n × (IsTrue (told old)
     → (p : List ℕ) × Names (documents old) (ops_of old) d p × ((q : List ℕ) → Names (documents old) (ops_of old) d q → IsNamedAt new n q)))
-
--- where a text names the node at a place, a call finds it by what is owed
-abbrev pub Finds : BenchState → Mediator → BenchState → Mediator → MarkedText → Result (Unit {0}) WalkFault → Type 0
-Finds old m new m' t result =
-    (p : List ℕ) → NamesAt old t p
-    → AsksAtMost old new (owed_of old m t p)
-    × (IsTrue (told old) → IfOk result (λ r. IsTrue (is_some (found_for m' t.text))))
 
 -- an identifier was walked to, below another
 abbrev pub IsWalkedBelow : BenchState → BenchState → NodeId → NodeId → Type 0
@@ -70,3 +65,26 @@ IsPaid old new m' n result = (p : List ℕ) → IsNamedAt old n p → IsTrue (to
 -- where a text names the node at a place of told sources, nothing more is owed for it after a call that no source failed
 abbrev pub IsTextPaid : BenchState → BenchState → Mediator → MarkedText → Result (Option WalkedNode) WalkFault → Type 0
 IsTextPaid old new m' t result = (p : List ℕ) → NamesAt old t p → IsTrue (told old) → IfOk result (λ r. owed_of new m' t p ≡ 0)
+
+-- WHAT IS SHARED
+
+-- what one text says is a part of what another says: the node that it names lies on the way to the other's, or is that
+pub record IsPart (part whole : NodeValue) : Type 0 where
+  pub stage : Stage
+  pub within : IsStage whole stage
+  pub says : part ≡ part_of whole stage
+
+-- an identifier lies on the way of another: both are texts, and what the one says is a part of what the other says
+abbrev pub IsOnWay : NodeId → NodeId → Type 0
+IsOnWay (Marked x) (Marked t) = IsPart x.value.mark.data t.value.mark.data
+IsOnWay (Marked x) (Walked n) = ⊥
+IsOnWay (Walked m) n = ⊥
+
+-- over told sources, after a call that no source failed, nothing more is owed for any identifier that lies on the way of one that it was called for
+abbrev pub IsShared : BenchState → BenchState → Mediator → NodeId → Result (Option NodeId) WalkFault → Type 0
+IsShared old new m' n result = IsTrue (told old) → IfOk result (λ r. (x : NodeId) (q : List ℕ) → IsOnWay x n → IsNamedAt new x q → owed new m' x q ≡ 0)
+
+-- over told sources, after a call that no source failed, nothing more is owed for any text that says a part of what one says that it was called for
+abbrev pub IsTextShared : BenchState → BenchState → Mediator → MarkedText → Result (Option WalkedNode) WalkFault → Type 0
+IsTextShared old new m' t result =
+    IsTrue (told old) → IfOk result (λ r. (x : MarkedText) (q : List ℕ) → IsPart x.mark.data t.mark.data → NamesAt new x q → owed_of new m' x q ≡ 0)

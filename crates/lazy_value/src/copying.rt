@@ -1,6 +1,8 @@
 // Copies of what a text says.
 ghost use Rattle.std.specs.Prelude.{◌≡◌, ◌++◌, List, ℕ, IfOk, take};
+ghost use Rattle.lazy_walk.specs.Stages.{IsStage, part_of};
 
+use lazy_walk::Stage;
 use mix_tree::Place;
 use node_text::{Level, NodeData};
 use std::alloc::{AllocError, Global};
@@ -49,5 +51,20 @@ pub(crate) fn copy_data(alloc: Global, node: &NodeData) -> Result<NodeData, Allo
 {
     let levels = copy_levels(alloc, &node.levels)?;
     let inside = copy_place(alloc, &node.inside)?;
+    Ok(NodeData { levels, inside })
+}
+
+/// A part of what a text says.
+pub(crate) fn copy_part(
+    alloc: Global,
+    node: &NodeData,
+    stage: Stage,
+) -> Result<NodeData, AllocError>
+    requires { IsStage node.now stage }
+    ensures { IfOk result (λ copy. copy ≡ part_of node.now stage) }
+{
+    let levels = copy_levels(alloc, &node.levels[..stage.levels])?;
+    let steps = &node.inside.steps()[..stage.steps];
+    let inside = Place::new(Vec::from_slice(alloc, steps)?);
     Ok(NodeData { levels, inside })
 }

@@ -4,8 +4,11 @@ ghost use Rattle.std.specs.List.{list_all};
 ghost use Rattle.node_text.specs.Grammar.{Spells};
 ghost use Rattle.node_text.specs.Node.{IsFormed};
 ghost use Rattle.lazy_site.specs.Levels.{is_below_top};
-ghost use Rattle.lazy_value.specs.Forms.{Decides};
+ghost use Rattle.lazy_walk.specs.Stages.{IsStage, part_of};
+ghost use Rattle.lazy_value.specs.Forms.{Decides, SpellsRoot};
 
+use crate::copying::copy_part;
+use lazy_walk::Stage;
 use mix_tree::{Label, Place};
 use node_text::{Level, NodeData, write_node};
 use std::alloc::{AllocError, Global};
@@ -51,4 +54,23 @@ pub(crate) fn text_of(alloc: Global, node: &NodeData) -> Result<Label, AllocErro
 {
     let bytes = write_node(alloc, node)?;
     Label::of_text(alloc, &bytes)
+}
+
+/// The text that says a part of what another says.
+pub(crate) fn part_text(alloc: Global, node: &NodeData, stage: Stage) -> Result<Label, AllocError>
+    requires formed { IsFormed node.now }
+    requires stage { IsStage node.now stage }
+    ensures { IfOk result (λ text. Spells text (part_of node.now stage)) }
+{
+    let part = copy_part(alloc, node, stage)?;
+    text_of(alloc, &part)
+}
+
+/// The text of the root.
+pub(crate) fn root_text(alloc: Global) -> Result<Label, AllocError>
+    ensures { IfOk result (λ text. SpellsRoot text) }
+{
+    let levels = Vec::new(alloc);
+    let inside = Place::new(Vec::new(alloc));
+    text_of(alloc, &NodeData { levels, inside })
 }

@@ -4,7 +4,7 @@ use Rattle.lazy_value.specs.declared.ids.MarkedText.{MarkedText}
 use Rattle.lazy_value.specs.declared.ids.NodeId.{NodeId}
 use Rattle.lazy_value.specs.declared.mediator.Mediator.{Mediator}
 use Rattle.lazy_value.specs.Named.{state_of, owed, owed_of, IsNamedAt, NamesAt}
-use Rattle.lazy_value.proofs.Keeping.{walked_alike, given_place}
+use Rattle.lazy_value.proofs.Keeping.{walked_alike, given_place, shared_walked, shared_marked}
 use Rattle.lazy_value.proofs.mediator.Mediator.right.Goals as goal
 
 pub returns-in_err-right-in-Walked-clause-walked : goal.returns-in_err-right-in-Walked-clause-walked
@@ -44,3 +44,15 @@ returns-in_ok-right_marked-in-Marked-clause-paid g c = λ p at tells.
     let there : NamesAt a c.in-Marked.marked.value p = subst (λ (n : NodeId). IsNamedAt a n p) c.in-Marked.is at in
     let here : NamesAt a c.deref.result.now p = subst (λ (x : MarkedText). NamesAt a x p) (sym c.deref.ensures) there in
     ap (λ (n : NodeId). owed d o n p) c.in-Marked.is ∙ ap (λ (x : MarkedText). owed_of d o x p) (sym c.deref.ensures) ∙ c.in_ok-right_marked-in-Marked.ensures.paid p here tells
+
+pub returns-in_ok-right-in-Walked-clause-shared : goal.returns-in_ok-right-in-Walked-clause-shared
+returns-in_ok-right-in-Walked-clause-shared g c = λ tells x q on at.
+    let o : Mediator = record { walk = c.right.new.self; found = c.args.self.now.found } in
+    let d = state_of (g.S.Sources.view c.right.new.s) o in
+    shared_walked d o c.args.n.now c.in-Walked.node c.in-Walked.is x q on
+
+pub returns-in_ok-right_marked-in-Marked-clause-shared : goal.returns-in_ok-right_marked-in-Marked-clause-shared
+returns-in_ok-right_marked-in-Marked-clause-shared g c = λ tells.
+    let o : Mediator = c.right_marked.new.self in
+    let d = state_of (g.S.Sources.view c.right_marked.new.s) o in
+    shared_marked d o c.args.n.now c.in-Marked.marked c.deref.result.now c.in-Marked.is c.deref.ensures (c.in_ok-right_marked-in-Marked.ensures.shared tells)
