@@ -1,5 +1,5 @@
 -- A child of a node at an index: the first child, and siblings behind it.
-use Rattle.std.proofs.Common.{◌≡◌, ◌<◌, ◌+◌, ℕ, List, [], ◌∷◌, ◌++◌, Option, Some, None, sym, ap, subst, ◌∙◌, arith, append_assoc, append-nil, length, take, drop, slice_index}
+use Rattle.std.proofs.Common.{◌≡◌, ◌<◌, ◌+◌, ℕ, List, [], ◌∷◌, ◌++◌, Option, Some, None, sym, ap, subst, ◌∙◌, arith, append_assoc, length, take, drop, slice_index}
 use Rattle.std.proofs.lemmas.List.{take-append-drop}
 use Rattle.mix_base.proofs.Runs.{take_next}
 use Rattle.std.specs.Prelude.{IsTrue, Result, Ok, Err, IfOk}

@@ -1,6 +1,6 @@
 -- A step further on the way of a text: along its levels, or along the place below.
-use Rattle.std.proofs.Common.{◌≡◌, ◌∙◌, ℕ, zero, suc, ◌<◌, ◌≤◌, ◌+◌, List, [], ◌∷◌, ◌++◌, Option, Some, None, refl, sym, ap, subst, arith, length, take, drop, slice_index, append_assoc, append-nil, length-append, length-drop}
-use Rattle.std.specs.Prelude.{IsTrue, MatchOption, Result, Ok, Err, IfOk, option_map}
+use Rattle.std.proofs.Common.{◌≡◌, ◌∙◌, ℕ, ◌<◌, ◌≤◌, ◌+◌, List, [], ◌∷◌, ◌++◌, Option, Some, None, refl, sym, ap, subst, arith, length, take, drop, slice_index, append_assoc, append-nil, length-append, length-drop}
+use Rattle.std.specs.Prelude.{MatchOption, Result, Ok, IfOk, option_map}
 use Rattle.std.proofs.lemmas.List.{take-append-drop, length-take-le, take_all, take_at}
 use Rattle.mix_tree.specs.Forest.{LabelledTree, alone}
 use Rattle.mix_tree.specs.Place.{has_place}
@@ -25,10 +25,10 @@ use Rattle.lazy_walk.specs.declared.finding.Led.{Led}
 use Rattle.lazy_walk.specs.declared.ids.WalkedNode.{WalkedNode}
 use Rattle.lazy_walk.specs.declared.stage.Passed.{Passed}
 use Rattle.lazy_walk.specs.declared.stage.Stage.{Stage}
-use Rattle.lazy_walk.specs.Finding.{child_charge, charge_below, outer_listing, FindsBelow, FindsLed, GivesFurther, GivesLed, GoesOnTo, HasListAt, IsFurther, IsNextNamed, LeadsBelow, LeadsFurther, LedLower}
+use Rattle.lazy_walk.specs.Finding.{child_charge, charge_below, outer_listing, FindsBelow, FindsLed, GivesFurther, GivesLed, GoesOnTo, HasListAt, IsNextNamed, LeadsBelow, LeadsFurther, LedLower}
 use Rattle.lazy_walk.specs.Leading.{AreOfChosen}
 use Rattle.lazy_walk.specs.Places.{IsAt, GivesNode, HasPlace}
-use Rattle.lazy_walk.specs.Stages.{IsStage, NamesNoneBetween, levels_further, part_of, passed_by_levels, passed_by_step, size_of, step_further, whole_size}
+use Rattle.lazy_walk.specs.Stages.{IsStage, NamesNoneBetween, levels_further, part_of, passed_by_levels, passed_by_step, size_of, step_further}
 use Rattle.lazy_walk.specs.Walks.{node_height, HasLower}
 use Rattle.lazy_walk.proofs.Ahead.{IsAhead, cut_ends, named_ahead}
 use Rattle.lazy_walk.proofs.Childing.{place_split}

@@ -1,23 +1,22 @@
 -- The levels of a text cut after those that lead to the first tree, and the evidence behind them.
-use Rattle.std.proofs.Common.{◌≡◌, ◌∙◌, ℕ, zero, suc, ◌+◌, List, [], ◌∷◌, ◌++◌, Option, Some, None, refl, sym, ap, subst, arith, length, drop}
-use Rattle.std.specs.Prelude.{slice_get, MatchOption, option_and_then, option_map, map}
+use Rattle.std.proofs.Common.{◌≡◌, ◌∙◌, ℕ, suc, ◌+◌, List, [], ◌∷◌, ◌++◌, Option, Some, None, refl, sym, ap, subst, length, drop}
+use Rattle.std.specs.Prelude.{slice_get, MatchOption, option_and_then, option_map}
 use Rattle.std.specs.List.{last_or}
-use Rattle.mix_base.proofs.Choices.{some_is, none_some}
+use Rattle.mix_base.proofs.Choices.{some_is}
 use Rattle.mix_tree.specs.Nodes.{Documents}
-use Rattle.mix_tree.specs.declared.var.Key.{Key}
 use Rattle.node_text.specs.Node.{LevelValue, level}
 use Rattle.plan_core.specs.declared.plan.Piece.{Piece}
 use Rattle.plan_core.specs.declared.plan.Piece.TheVariants.{Var as var_piece, LabelOf as label_piece, Text as text_piece}
 use Rattle.plan_core.specs.Plans.{Operator}
-use Rattle.plan_evidence.specs.Named.{maker, element_list, list_of, outer_of, Listing, of_pieces, of_group, Reached, IsSingle, Picks, of_member, of_piece, of_list_member, Ends, Leads, to_tree, to_element, to_pieces, before_piece, IsOuter}
+use Rattle.plan_evidence.specs.Named.{maker, element_list, list_of, outer_of, Listing, of_pieces, of_group, Reached, IsSingle, of_member, of_piece, of_list_member, Ends, Leads, to_tree, to_element, to_pieces, before_piece}
 use Rattle.plan_evidence.specs.Opened.{Enters, by_one, by_pieces}
 use Rattle.plan_levels.specs.Entered.{numbers_of}
 use Rattle.lazy_follow.specs.declared.evidence.Evidence.{Evidence}
-use Rattle.lazy_follow.specs.Following.{Choice, nothing, a_tree, a_member, a_list_among, choice, piece_choice, value_choice, without_places, list_in, Stand, Ending, before, tree_ending, choice_ending, ending, outer_ending, text_ending}
+use Rattle.lazy_follow.specs.Following.{Choice, nothing, a_tree, a_member, a_list_among, choice, piece_choice, value_choice, list_in, Stand, Ending, before, tree_ending, choice_ending, ending, outer_ending, text_ending}
 use Rattle.lazy_follow.specs.Marks.{member_ops}
 use Rattle.lazy_walk.specs.Finding.{outer_listing}
 use Rattle.lazy_walk.specs.Leading.{IsOfChosen, list_behind, number_choice, AreOfChosen}
-use Rattle.lazy_walk.proofs.OneWay.{chooses_list, chooses_group, chooses_whole, IsSplit, split}
+use Rattle.lazy_walk.proofs.OneWay.{chooses_list, chooses_group, chooses_whole, split}
 
 -- WHERE LEVELS LEAD
 

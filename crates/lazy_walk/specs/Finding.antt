@@ -8,7 +8,7 @@ use Rattle.lxp_core.specs.declared.fault.WalkFault.{WalkFault}
 use Rattle.plan_core.specs.declared.plan.Piece.{Piece}
 use Rattle.plan_core.specs.declared.plan.Piece.TheVariants.{Var as var_piece}
 use Rattle.plan_core.specs.Plans.{Operator}
-use Rattle.plan_evidence.specs.Named.{maker, element_list, list_of, outer_of, IsOuter, Leads, Listing, Names, Reached}
+use Rattle.plan_evidence.specs.Named.{maker, element_list, list_of, outer_of, IsOuter, Listing, Names, Reached}
 use Rattle.plan_evidence.specs.Opened.{Enters}
 use Rattle.lazy_follow.specs.declared.evidence.Evidence.{Evidence}
 use Rattle.lazy_follow.specs.Following.{list_in}
