@@ -1,5 +1,5 @@
 -- A step further on the way of a text: along its levels, or along the place below.
-use Rattle.std.proofs.Common.{◌≡◌, ◌∙◌, ℕ, ◌<◌, ◌≤◌, ◌+◌, List, [], ◌∷◌, ◌++◌, Option, Some, None, refl, sym, ap, subst, arith, length, take, drop, slice_index, append_assoc, append-nil, length-append, length-drop}
+use Rattle.std.proofs.Common.{◌≡◌, ◌∙◌, ℕ, zero, suc, ◌<◌, ◌≤◌, ◌+◌, List, [], ◌∷◌, ◌++◌, Option, Some, None, refl, sym, ap, subst, arith, length, take, drop, slice_index, append_assoc, append-nil, length-append, length-drop}
 use Rattle.std.specs.Prelude.{MatchOption, Result, Ok, IfOk, option_map}
 use Rattle.std.proofs.lemmas.List.{take-append-drop, length-take-le, take_all, take_at}
 use Rattle.mix_tree.specs.Forest.{LabelledTree, alone}
@@ -50,10 +50,15 @@ found_among old new n levels ls members ms r e g f =
 
 -- THE WAY FURTHER
 
+-- where steps are made only behind all levels, and not all were passed, none was made
+none_made : (steps levels all : ℕ) → (0 < steps → levels ≡ all) → (levels ≡ all → ⊥) → steps ≡ 0
+none_made zero levels all below less = refl
+none_made (suc steps) levels all below less = absurd (less (below (omega arith)))
+
 module _ (d : NodeValue) (from : Stage) (stage : IsStage d from) where
   -- where levels are ahead, no step below was made
   pub no_steps : from.levels < length d.levels → from.steps ≡ 0
-  no_steps less = (let b = stage.below in omega (arith, b))
+  no_steps less = none_made from.steps from.levels (length d.levels) stage.below (λ e. omega (arith, e, less))
 
   -- behind so many levels more stands a stage further on
   levels_stage : from.levels < length d.levels → (count : ℕ) → 0 < count → count ≤ length (drop from.levels d.levels) → IsStage d (levels_further from count) × (size_of from < size_of (levels_further from count))
@@ -172,8 +177,7 @@ module _ (old : BenchState) (law : (q : PlanValue) → TolledIsDocument q) (vali
         none_between : (led : Led) → FindsAmong old new n (drop from.levels mark.data.levels) (drop from.levels mark.members.items) (Ok (Some led)) → from.levels + led.count ≤ length mark.data.levels
             → NamesNoneBetween (documents old) (ops_of old) mark.data from (levels_further from led.count)
         none_between led f most to is_stage after before a names =
-            let b = is_stage.below in
-            let none : to.steps ≡ 0 = omega (arith, b, before, most) in
+            let none = none_made to.steps to.levels (length mark.data.levels) is_stage.below (λ e. omega (arith, e, before, most)) in
             let start = no_steps mark.data from stage less in
             let within = is_stage.levels in
             let lo : from.levels < to.levels = omega (arith, after, none, start) in
