@@ -1,5 +1,5 @@
 -- How the levels of a text go on behind those of a part of it that names a node: in the list of the element there.
-use Rattle.std.proofs.Common.{◌≡◌, ◌∙◌, ℕ, ◌<◌, ◌+◌, List, [], ◌∷◌, ◌++◌, Option, Some, refl, sym, ap, subst, length, drop, append_assoc, append-nil, length-append}
+use Rattle.std.proofs.Common.{◌≡◌, ◌∙◌, ℕ, ◌<◌, List, [], ◌∷◌, ◌++◌, Option, Some, refl, sym, ap, subst, length, drop, append_assoc, append-nil, length-append}
 use Rattle.std.specs.Prelude.{option_and_then}
 use Rattle.std.proofs.lemmas.List.{map-append, length-map, drop-drop}
 use Rattle.mix_base.proofs.Choices.{some_is}

@@ -25,11 +25,10 @@ use Rattle.lazy_walk.specs.declared.finding.Led.{Led}
 use Rattle.lazy_walk.specs.declared.ids.WalkedNode.{WalkedNode}
 use Rattle.lazy_walk.specs.declared.stage.Passed.{Passed}
 use Rattle.lazy_walk.specs.declared.stage.Stage.{Stage}
-use Rattle.lazy_walk.specs.Finding.{child_charge, charge_below, outer_listing, FindsBelow, FindsLed, GivesFurther, GivesLed, GoesOnTo, HasListAt, IsNextNamed, LeadsBelow, LeadsFurther, LedLower}
+use Rattle.lazy_walk.specs.Finding.{child_charge, charge_below, outer_listing, FindsBelow, FindsLed, GivesLed, GoesOnTo, HasListAt, IsNextNamed, LeadsBelow, LeadsFurther}
 use Rattle.lazy_walk.specs.Leading.{AreOfChosen}
-use Rattle.lazy_walk.specs.Places.{IsAt, GivesNode, HasPlace}
-use Rattle.lazy_walk.specs.Stages.{IsStage, NamesNoneBetween, levels_further, part_of, passed_by_levels, passed_by_step, size_of, step_further}
-use Rattle.lazy_walk.specs.Walks.{node_height, HasLower}
+use Rattle.lazy_walk.specs.Places.{IsAt, HasPlace}
+use Rattle.lazy_walk.specs.Stages.{IsStage, NamesNoneBetween, levels_further, part_of, passed_by_levels, passed_by_step, step_further}
 use Rattle.lazy_walk.proofs.Ahead.{IsAhead, cut_ends, named_ahead}
 use Rattle.lazy_walk.proofs.Childing.{place_split}
 use Rattle.lazy_walk.proofs.Fronts.{IsPart, IsTopNamed, named_top, part_at}
@@ -59,26 +58,6 @@ module _ (d : NodeValue) (from : Stage) (stage : IsStage d from) where
   -- where levels are ahead, no step below was made
   pub no_steps : from.levels < length d.levels → from.steps ≡ 0
   no_steps less = none_made from.steps from.levels (length d.levels) stage.below (λ e. omega (arith, e, less))
-
-  -- behind so many levels more stands a stage further on
-  levels_stage : from.levels < length d.levels → (count : ℕ) → 0 < count → count ≤ length (drop from.levels d.levels) → IsStage d (levels_further from count) × (size_of from < size_of (levels_further from count))
-  levels_stage less count some most =
-      let l = length-drop from.levels d.levels in
-      let none = no_steps less in
-      (record { levels = omega (arith, l, most, less); steps = omega arith; below = λ h. absurd (omega (arith, h)) }, omega (arith, none, some))
-
-  -- so is what a search among the children of a node gives
-  pub levels_give : (old new : BenchState) (n : WalkedNode) → from.levels < length d.levels → (r : Option Led) → GivesLed new (length (drop from.levels d.levels)) r → LedLower (node_height old n) new r
-      → GivesFurther old new n d from (option_map (passed_by_levels from) r)
-  levels_give old new n less None g l = tt
-  levels_give old new n less (Some led) g l = (let s = levels_stage less led.count g.1 g.2 in record { node = g.0; lower = l; stage = s.0; more = s.1 })
-
-  -- a step further below all levels is one more
-  pub step_gives : (old new : BenchState) (n : WalkedNode) → length d.levels ≤ from.levels → from.steps < length d.inside → (r : Option WalkedNode) → GivesNode new r → HasLower (node_height old n) new r
-      → GivesFurther old new n d from (option_map (passed_by_step from) r)
-  step_gives old new n all less None g l = tt
-  step_gives old new n all less (Some x) g l =
-      (let a = stage.levels in record { node = g; lower = l; stage = record { levels = a; steps = omega (arith, less); below = λ h. omega (arith, a, all) }; more = omega arith })
 
 module _ (old : BenchState) (law : (q : PlanValue) → TolledIsDocument q) (valid : IsValid (plan_value old.plan)) (mark : Mark) (is : IsMark old mark) where
   -- what a text names is there
@@ -309,10 +288,6 @@ module _ (old : BenchState) (law : (q : PlanValue) → TolledIsDocument q) (vali
 -- WHAT A CALL COMES TO
 
 module _ (old : BenchState) (law : (q : PlanValue) → TolledIsDocument q) (valid : IsValid (plan_value old.plan)) (mark : Mark) (is : IsMark old mark) (from : Stage) (stage : IsStage mark.data from) (new : BenchState) (n : WalkedNode) where
-  -- where all was passed, nothing is ahead
-  pub none_ahead : length mark.data.levels ≤ from.levels → from.steps ≡ length mark.data.inside → (result : Result (Option Passed) WalkFault) → GoesOnTo old new n mark.data from result
-  none_ahead all same result q p at part names more = (let a = stage.levels in absurd (omega (arith, all, same, more, a)))
-
   module _ (less : from.levels < length mark.data.levels) where
     -- levels are ahead, and the search among the children failed
     pub levels_fail : (r : Result (Option Led) WalkFault) → FindsAmong old new n (drop from.levels mark.data.levels) (drop from.levels mark.members.items) r → (result : Result (Option Passed) WalkFault)

@@ -4,7 +4,7 @@ use Rattle.std.specs.Prelude.{slice_get, MatchOption, option_and_then, option_ma
 use Rattle.std.specs.List.{last_or}
 use Rattle.mix_base.proofs.Choices.{some_is}
 use Rattle.mix_tree.specs.Nodes.{Documents}
-use Rattle.node_text.specs.Node.{LevelValue, level}
+use Rattle.node_text.specs.Node.{LevelValue}
 use Rattle.plan_core.specs.declared.plan.Piece.{Piece}
 use Rattle.plan_core.specs.declared.plan.Piece.TheVariants.{Var as var_piece, LabelOf as label_piece, Text as text_piece}
 use Rattle.plan_core.specs.Plans.{Operator}

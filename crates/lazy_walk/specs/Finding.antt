@@ -144,7 +144,8 @@ pub record IsFurther (old new : BenchState) (n : WalkedNode) (d : NodeValue) (fr
 abbrev pub GivesFurther : BenchState → BenchState → WalkedNode → NodeValue → Stage → Option Passed → Type 0
 GivesFurther old new n d from r = MatchOption r (Unit {0}) (IsFurther old new n d from)
 
--- a node on the way of a text stands at the place that the part of the text names which leads to it, and no smaller part names a node behind the one it was found from
+-- a node on the way of a text stands at the place that the part of the text names which leads to it, and no smaller part names a node behind the one it was
+-- found from
 pub record IsNextNamed (old new : BenchState) (d : NodeValue) (from : Stage) (place : List ℕ) (x : Passed) : Type 0 where
   pub at : IsAt new x.node place
   pub names : Names (documents old) (ops_of old) (part_of d x.stage) place

@@ -1,9 +1,9 @@
-use Rattle.std.proofs.Common.{rules, arith, ◌≡◌, ◌<◌, ◌≤◌, ◌∙◌, sym, ap, subst, length, drop}
+use Rattle.std.proofs.Common.{rules, arith, ◌≡◌, ◌<◌, ◌∙◌, sym, ap, subst, length, drop}
 use Rattle.std.specs.Prelude.{Ok}
 use Rattle.std.proofs.lemmas.List.{take_rest}
 use Rattle.lazy_walk.specs.Finding.{GoesOnTo}
 use Rattle.lazy_walk.specs.Walks.{state_of}
-use Rattle.lazy_walk.proofs.Following.{found_among, levels_fail, levels_go_on, none_ahead, steps_fail, steps_go_on}
+use Rattle.lazy_walk.proofs.Following.{found_among, levels_fail, levels_go_on, steps_fail, steps_go_on}
 use Rattle.lazy_walk.proofs.LeadsHere.{members_length, members_behind}
 use Rattle.lazy_walk.proofs.walk.Walk.led_on.Goals as goal
 
