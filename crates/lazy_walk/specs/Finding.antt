@@ -159,8 +159,8 @@ pub record LeadsFurther (old new : BenchState) (d : NodeValue) (from : Stage) (q
   pub asks : AsksAtMost old new (child_charge (documents old) (ops_of old) q index)
   pub finds : IfOk result (λ r. MatchOption r ⊥ (IsNextNamed old new d from (q ++ index ∷ [])))
 
--- over told sources, where a part of a text names the node at which an identifier stands, and the whole text, of which more is ahead, names another, a call finds the
--- next node on the way
+-- over told sources, where a part of a text names the node at which an identifier stands, and the whole text, of which more is ahead, names another, a call
+-- finds the next node on the way
 abbrev pub GoesOnTo : BenchState → BenchState → WalkedNode → NodeValue → Stage → Result (Option Passed) WalkFault → Type 0
 GoesOnTo old new n d from result =
     (q p : List ℕ) → IsAt old n q → Names (documents old) (ops_of old) (part_of d from) q → Names (documents old) (ops_of old) d p → size_of from < whole_size d
