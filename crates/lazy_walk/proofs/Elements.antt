@@ -1,6 +1,6 @@
 -- The lists of the elements to which levels lead, as identifiers below them know them.
-use Rattle.std.proofs.Common.{◌≡◌, ◌∙◌, ℕ, zero, suc, ◌<◌, ◌+◌, List, [], ◌∷◌, ◌++◌, Option, Some, None, refl, sym, ap, subst, arith, length, length-append, append_assoc, append-nil}
-use Rattle.std.specs.Prelude.{IsTrue, MatchOption}
+use Rattle.std.proofs.Common.{◌≡◌, ◌∙◌, ℕ, ◌<◌, List, [], ◌∷◌, ◌++◌, Option, Some, refl, sym, ap, subst, arith, length, append_assoc, append-nil}
+use Rattle.std.specs.Prelude.{IsTrue}
 use Rattle.mix_base.proofs.Choices.{some_is, none_some}
 use Rattle.mix_base.specs.Events.{found}
 use Rattle.node_text.specs.Node.{LevelValue}
@@ -8,18 +8,15 @@ use Rattle.plan_core.specs.declared.plan.Piece.{Piece}
 use Rattle.plan_core.specs.declared.plan.Piece.TheVariants.{Var as var_piece, LabelOf as label_piece, Text as text_piece}
 use Rattle.plan_core.specs.Events.{first_row}
 use Rattle.plan_core.specs.PlanMade.{plan_value}
-use Rattle.plan_core.specs.TolledRows.{TolledRow}
 use Rattle.plan_core.specs.Typed.{IsTyped}
-use Rattle.plan_core.specs.Valid.{a_node, kinds, IsValid}
-use Rattle.plan_evidence.specs.Named.{maker, element_list, list_of, outer_of, IsOuter, Listing, Reached}
+use Rattle.plan_core.specs.Valid.{a_node, IsValid}
+use Rattle.plan_evidence.specs.Named.{maker, element_list, list_of, Listing, Reached}
 use Rattle.plan_evidence.specs.Opened.{Enters}
 use Rattle.plan_evidence.specs.Remains.{levels_of, IsIndex}
-use Rattle.plan_levels.specs.Entered.{AreAlike}
 use Rattle.plan_levels.proofs.Entering.{enters_alike}
 use Rattle.tree_buffer.specs.declared.spot.Spot.{Spot}
 use Rattle.lazy_binding.specs.Bench.{IsBench}
 use Rattle.lazy_binding.specs.declared.position.Position.{Position}
-use Rattle.lazy_follow.specs.declared.evidence.Evidence.{Evidence}
 use Rattle.lazy_plan.specs.Bench.{BenchState, ops_of, documents, events_of, told, binding_at}
 use Rattle.lazy_site.specs.Ids.{IsRest}
 use Rattle.lazy_site.specs.Levels.{HasList, IsOpen, of_root, of_member, reached_at, tuple_at}
@@ -28,12 +25,10 @@ use Rattle.lazy_site.specs.Standing.{remains, IsHolder, hand_op, hand_at, IsStan
 use Rattle.lazy_site.specs.declared.sites.Head.{Head}
 use Rattle.lazy_site.specs.declared.sites.Head.TheVariants.{Whole}
 use Rattle.lazy_site.specs.declared.sites.Rest.{Rest}
-use Rattle.lazy_site.specs.declared.sites.Site.{Site}
-use Rattle.lazy_site.specs.declared.sites.Site.TheVariants.{Root, Inside, Item}
 use Rattle.lazy_site.proofs.Holders.{open_holder}
 use Rattle.lazy_site.proofs.Listings.{holder_sound}
 use Rattle.lazy_site.proofs.Opening.{list_in, hand_enters, hand_holder}
-use Rattle.lazy_walk.specs.Above.{IsItemAt, IsInsideAt, IsLedTo}
+use Rattle.lazy_walk.specs.Above.{IsItemAt, IsInsideAt}
 use Rattle.lazy_walk.specs.Finding.{HasListAt, of_outer, of_inner}
 
 -- PLACES

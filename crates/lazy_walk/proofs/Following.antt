@@ -1,185 +1,72 @@
--- A walk along all levels of a text, and along the place below.
-use Rattle.std.proofs.Common.{◌≡◌, ◌∙◌, ℕ, zero, suc, ◌<◌, ◌≤◌, ◌+◌, true, false, List, [], ◌∷◌, ◌++◌, Option, Some, None, refl, sym, ap, subst, arith, length, drop, append_assoc, append-nil}
-use Rattle.std.specs.Prelude.{IsTrue, MatchOption, Result, Ok, Err, IfOk, option_and_then, ◌==◌}
-use Rattle.std.proofs.lemmas.Bool.Decides.{nat_tests}
-use Rattle.std.specs.List.{last_or}
-use Rattle.std.proofs.Math.Seq.{drop-append_seam}
+-- A step further on the way of a text: along its levels, or along the place below.
+use Rattle.std.proofs.Common.{◌≡◌, ◌∙◌, ℕ, zero, suc, ◌<◌, ◌≤◌, ◌+◌, List, [], ◌∷◌, ◌++◌, Option, Some, None, refl, sym, ap, subst, arith, length, take, drop, slice_index, append_assoc, append-nil, length-append, length-drop}
+use Rattle.std.specs.Prelude.{MatchOption, Result, Ok, IfOk, option_map}
+use Rattle.std.proofs.lemmas.List.{take-append-drop, length-take-le, take_all, take_at}
 use Rattle.mix_tree.specs.Forest.{LabelledTree, alone}
 use Rattle.mix_tree.specs.Place.{has_place}
-use Rattle.mix_tree.specs.Nodes.{Documents}
 use Rattle.mix_base.proofs.Choices.{some_is}
+use Rattle.mix_base.proofs.Runs.{take_next}
 use Rattle.lxp_core.specs.declared.fault.WalkFault.{WalkFault}
-use Rattle.node_text.specs.Node.{LevelValue}
-use Rattle.plan_core.specs.declared.plan.Piece.{Piece}
-use Rattle.plan_core.specs.declared.plan.Piece.TheVariants.{Var as var_piece}
+use Rattle.node_text.specs.Node.{LevelValue, NodeValue, node}
 use Rattle.plan_core.specs.PlanMade.{plan_value}
-use Rattle.plan_core.specs.Plans.{Operator, PlanValue}
+use Rattle.plan_core.specs.Plans.{PlanValue}
 use Rattle.plan_core.specs.Valid.{IsValid}
 use Rattle.plan_core.specs.Events.{TolledIsDocument}
-use Rattle.plan_evidence.specs.Named.{maker, element_list, list_of, outer_of, Leads, Names, NamesBy, Listing, Reached}
-use Rattle.plan_evidence.specs.Opened.{Enters}
+use Rattle.plan_evidence.specs.Named.{Names, NamesBy}
 use Rattle.plan_evidence.proofs.NamedNodes.{names_nodes}
+use Rattle.plan_evidence.proofs.NamedOnce.{names_one}
+use Rattle.plan_evidence.proofs.Opened.{opened_named}
 use Rattle.lazy_follow.specs.declared.evidence.Evidence.{Evidence}
 use Rattle.lazy_follow.specs.declared.mark.Mark.{Mark}
-use Rattle.lazy_follow.specs.Following.{Ending, list_in, text_ending}
+use Rattle.lazy_follow.specs.Following.{Ending, text_ending}
 use Rattle.lazy_follow.specs.Marks.{IsMark, HasEnd}
-use Rattle.lazy_plan.specs.Bench.{BenchState, ops_of, documents, told, KeepsBench, AsksAtMost}
+use Rattle.lazy_plan.specs.Bench.{BenchState, ops_of, documents, AsksAtMost}
 use Rattle.lazy_walk.specs.declared.finding.Led.{Led}
-use Rattle.lazy_walk.specs.declared.finding.LevelsAhead.{LevelsAhead}
 use Rattle.lazy_walk.specs.declared.ids.WalkedNode.{WalkedNode}
-use Rattle.lazy_walk.specs.Finding.{child_charge, charge_below, walk_charge, of_outer, of_inner, FindsBelow, FindsChild, FindsLevels, FindsMark, FindsNode, FoundTop, HasListAt, LeadOn, LeadsBelow, outer_listing}
+use Rattle.lazy_walk.specs.declared.stage.Passed.{Passed}
+use Rattle.lazy_walk.specs.declared.stage.Stage.{Stage}
+use Rattle.lazy_walk.specs.Finding.{child_charge, charge_below, outer_listing, FindsBelow, FindsLed, GivesLed, GoesOnTo, HasListAt, IsNextNamed, LeadsBelow, LeadsFurther}
 use Rattle.lazy_walk.specs.Leading.{AreOfChosen}
-use Rattle.lazy_walk.specs.Walks.{HasNoHigher}
-use Rattle.lazy_walk.specs.Places.{IsAt, GivesNode, HasPlace, plan_document}
-use Rattle.lazy_walk.proofs.Splits.{GoOn, IsCut, cut, top_of, chosen_behind, text_chosen}
-use Rattle.lazy_walk.proofs.Walking.{ops_on, by_docs, same_number, has_on, asks_twice, asks_more, has_earlier, charge_further}
+use Rattle.lazy_walk.specs.Places.{IsAt, HasPlace}
+use Rattle.lazy_walk.specs.Stages.{IsStage, NamesNoneBetween, levels_further, part_of, passed_by_levels, passed_by_step, step_further}
+use Rattle.lazy_walk.proofs.Ahead.{IsAhead, cut_ends, named_ahead}
+use Rattle.lazy_walk.proofs.Childing.{place_split}
+use Rattle.lazy_walk.proofs.Fronts.{IsPart, IsTopNamed, named_top, part_at}
+use Rattle.lazy_walk.proofs.Splits.{IsCut, cut, text_chosen}
+use Rattle.lazy_walk.proofs.Walking.{asks_more, has_earlier}
 
--- LEVELS
+-- over told sources, where levels lead to a child of a node, a call finds that by what the steps to it cost
+abbrev pub FindsAmong : BenchState → BenchState → WalkedNode → List LevelValue → List (Option Evidence) → Result (Option Led) WalkFault → Type 0
+FindsAmong old new n levels members result =
+    (q : List ℕ) (j : ℕ) → IsAt old n q → HasPlace old (q ++ j ∷ []) → (x : LeadsBelow (documents old) (ops_of old) q levels members j)
+    → AsksAtMost old new (child_charge (documents old) (ops_of old) q j) × FindsLed new (q ++ j ∷ []) (length x.lead.front) result
 
--- a list without members is empty
-pub none_there : {X : Type 0} (xs : List X) → (length xs == 0) ≡ true → xs ≡ []
-none_there [] e = refl
-none_there (x ∷ xs) e = (let z : length (x ∷ xs) ≡ 0 = grind (arith, nat_tests, e) in absurd (omega (arith, z)))
+-- what is found by some levels is found by those that are the same
+pub found_among : (old new : BenchState) (n : WalkedNode) (levels ls : List LevelValue) (members ms : List (Option Evidence)) (r : Result (Option Led) WalkFault) → levels ≡ ls → members ≡ ms → FindsAmong old new n levels members r
+    → FindsAmong old new n ls ms r
+found_among old new n levels ls members ms r e g f =
+    subst (λ (ms : List (Option Evidence)). FindsAmong old new n ls ms r) g (subst (λ (ls : List LevelValue). FindsAmong old new n ls members r) e f)
 
--- a list with members isn't
-pub some_there : {X : Type 0} (xs : List X) → (length xs == 0) ≡ false → xs ≡ [] → ⊥
-some_there xs e z = (let t : (length xs == 0) ≡ true = ap (λ ys. length ys == 0) z in let f : true ≡ false = sym t ∙ e in cc)
+-- THE WAY FURTHER
 
--- what stands no higher than a number stands no higher than a greater one
-pub no_higher : (st : BenchState) (h k : ℕ) → h ≤ k → (r : Result (Option WalkedNode) WalkFault) → IfOk r (λ x. GivesNode st x × HasNoHigher h st x) → IfOk r (λ x. GivesNode st x × HasNoHigher k st x)
-no_higher st h k l (Err e) f = tt
-no_higher st h k l (Ok None) f = (tt, tt)
-no_higher st h k l (Ok (Some n)) f = (f.0, (let z = f.1 in omega (arith, l, z)))
+-- where steps are made only behind all levels, and not all were passed, none was made
+none_made : (steps levels all : ℕ) → (0 < steps → levels ≡ all) → (levels ≡ all → ⊥) → steps ≡ 0
+none_made zero levels all below less = refl
+none_made (suc steps) levels all below less = absurd (less (below (omega arith)))
 
--- so a node stands that was found no higher than a number
-pub height_of : (st : BenchState) (h k : ℕ) → h ≤ k → (r : Result (Option WalkedNode) WalkFault) → IfOk r (λ x. GivesNode st x × HasNoHigher h st x) → IfOk r (HasNoHigher k st)
-height_of st h k l (Err e) f = tt
-height_of st h k l (Ok None) f = tt
-height_of st h k l (Ok (Some n)) f = (let z = f.1 in omega (arith, l, z))
+module _ (d : NodeValue) (from : Stage) (stage : IsStage d from) where
+  -- where levels are ahead, no step below was made
+  pub no_steps : from.levels < length d.levels → from.steps ≡ 0
+  no_steps less = none_made from.steps from.levels (length d.levels) stage.below (λ e. omega (arith, e, less))
 
-module _ (docs : Documents) (ops : List Operator) where
-  -- levels behind those to a tree lead on from it
-  lead_behind : (q : List ℕ) {here there : Reached} {list : Listing} {front : List LevelValue} {j : ℕ} {piece : Piece} → HasListAt docs ops q here list → Enters docs ops here list front j there piece
-      → (behind : List LevelValue) (ms : List (Option Evidence)) → AreOfChosen ops (list_in ops piece) behind ms → (inside way : List ℕ) → GoOn docs ops there piece behind inside way → LeadOn docs ops (q ++ j ∷ []) behind ms inside way
-  lead_behind q h enters [] ms chosen inside way g = g
-  lead_behind q {here = here} {there = there} {list = list} {front = front} {j = j} {piece = piece} h enters (l ∷ ls) ms chosen inside way g =
-      let v = g.0 in
-      let inner = g.2 in
-      let is : list_in ops piece ≡ Some inner = ap (list_in ops) g.3 ∙ ap (option_and_then (list_of ops)) g.4 ∙ g.5 in
-      (there, inner, of_inner h (subst (λ (x : Piece). Enters docs ops here list front j there x) g.3 enters) g.4 g.5, subst (λ o. AreOfChosen ops o (l ∷ ls) ms) is chosen, g.6)
+module _ (old : BenchState) (law : (q : PlanValue) → TolledIsDocument q) (valid : IsValid (plan_value old.plan)) (mark : Mark) (is : IsMark old mark) where
+  -- what a text names is there
+  named_has : (d : NodeValue) (a : List ℕ) → Names (documents old) (ops_of old) d a → HasPlace old a
+  named_has d a names t e =
+      let x = names_nodes law (plan_value old.plan) valid (documents old) d a names in
+      ap (λ (u : LabelledTree). has_place (alone u) a) (some_is t x.0 (sym e ∙ x.1)) ∙ x.2
 
-module _ (old : BenchState) (n : WalkedNode) (ahead : LevelsAhead) where
-  -- without levels a node is its own
-  pub node_alone : ahead.levels.now ≡ [] → FindsLevels old old n ahead (Ok (Some n))
-  node_alone e q inside path at has lead = record {
-    top = [];
-    is = subst (λ (ls : List LevelValue). LeadOn (documents old) (ops_of old) q ls ahead.members.now inside path) e lead;
-    asks = λ told forward. omega arith;
-    finds = subst (IsAt old n) (sym (append-nil q)) at;
-  }
-
-  module _ (l : LevelValue) (ls : List LevelValue) (some : ahead.levels.now ≡ l ∷ ls) (q inside path : List ℕ) (at : IsAt old n q) (has : HasPlace old (q ++ path))
-      (lead : LeadOn (documents old) (ops_of old) q ahead.levels.now ahead.members.now inside path) where
-    -- what some levels lead to
-    abbrev led : (here : Reached) × (list : Listing) × HasListAt (documents old) (ops_of old) q here list × AreOfChosen (ops_of old) (Some list) (l ∷ ls) ahead.members.now × Leads (documents old) (ops_of old) here list (l ∷ ls) inside path
-    led = subst (λ (xs : List LevelValue). LeadOn (documents old) (ops_of old) q xs ahead.members.now inside path) some lead
-
-    -- the levels cut after those to the first tree
-    abbrev first : IsCut (documents old) (ops_of old) led.0 led.1 (l ∷ ls) inside path
-    first = cut (documents old) (ops_of old) led.4
-
-    -- so they lead to a child
-    abbrev below : LeadsBelow (documents old) (ops_of old) q ahead.levels.now ahead.members.now first.index
-    below = record {
-      here = led.0;
-      there = first.there;
-      list = led.1;
-      piece = first.piece;
-      is_list = led.2;
-      chosen = subst (λ (xs : List LevelValue). AreOfChosen (ops_of old) (Some led.1) xs ahead.members.now) (sym some) led.3;
-      lead = record { front = first.front; behind = first.behind; is = some ∙ first.is; enters = first.enters };
-    }
-
-    -- that child is there
-    child_has : HasPlace old (q ++ first.index ∷ [])
-    child_has = has_earlier old q first.way first.index first.index (omega arith) (subst (λ (w : List ℕ). HasPlace old (q ++ w)) first.place has)
-
-    -- a search among the children asks no more than the walk costs
-    top_asked : (now : BenchState) (r : Result (Option WalkedNode) WalkFault) → ((p : List ℕ) → FindsNode now p r) → (found : Result (Option Led) WalkFault) → FindsChild old now n ahead found → FoundTop old now q inside path r
-    top_asked now r g found f =
-        let t = top_of (documents old) (ops_of old) led.4 in
-        let same : first.index ≡ t.0 = (let z : first.index ∷ first.way ≡ t.0 ∷ (t.1 ++ inside) = sym first.place ∙ t.2 in cc) in
-        let m = child_charge (documents old) (ops_of old) q first.index in
-        let c = ap (child_charge (documents old) (ops_of old) q) same in
-        record {
-          top = t.0 ∷ t.1;
-          is = t.2;
-          asks = asks_more old now m (charge_below (documents old) (ops_of old) q (t.0 ∷ t.1)) (omega (arith, c)) (f q first.index at child_has below).0;
-          finds = g (q ++ t.0 ∷ t.1);
-        }
-
-    -- some child is found
-    top_none : (now : BenchState) → FindsChild old now n ahead (Ok None) → ⊥
-    top_none now f = (f q first.index at child_has below).1
-
-    -- what is found behind the child is found behind the node
-    top_found : (now : BenchState) (kept : KeepsBench old now) (found : Led) → FindsChild old now n ahead (Ok (Some found)) → (behind : LevelsAhead) → behind.levels.now ≡ drop found.count ahead.levels.now → behind.members.now ≡ drop found.count ahead.members.now
-        → (new : BenchState) (r : Result (Option WalkedNode) WalkFault) → FindsLevels now new found.node behind r → FoundTop old new q inside path r
-    top_found now kept found f behind el em new r g =
-        let d = documents old in
-        let o = ops_of old in
-        let x = f q first.index at child_has below in
-        let count : found.count ≡ length first.front = x.1.1 in
-        let levels : behind.levels.now ≡ first.behind = el ∙ ap (λ (k : ℕ). drop k ahead.levels.now) count ∙ ap (drop (length first.front)) (some ∙ first.is) ∙ drop-append_seam first.front first.behind in
-        let members : behind.members.now ≡ drop (length first.front) ahead.members.now = em ∙ ap (λ (k : ℕ). drop k ahead.members.now) count in
-        let chosen = chosen_behind d o first.enters first.behind ahead.members.now (subst (λ (xs : List LevelValue). AreOfChosen o (Some led.1) xs ahead.members.now) first.is led.3) in
-        let on = lead_behind d o q led.2 first.enters first.behind (drop (length first.front) ahead.members.now) chosen inside first.way first.goes_on in
-        let there = subst (λ (ms : List (Option Evidence)). LeadOn d o (q ++ first.index ∷ []) behind.levels.now ms inside first.way) (sym members)
-        (subst (λ (xs : List LevelValue). LeadOn d o (q ++ first.index ∷ []) xs (drop (length first.front) ahead.members.now) inside first.way) (sym levels) on) in
-        let later = by_docs old now kept (λ d o. LeadOn d o (q ++ first.index ∷ []) behind.levels.now behind.members.now inside first.way) there in
-        let further : q ++ path ≡ (q ++ first.index ∷ []) ++ first.way = ap (λ (w : List ℕ). q ++ w) first.place ∙ sym (append_assoc q (first.index ∷ []) first.way) in
-        let t = g (q ++ first.index ∷ []) inside first.way x.1.0 (has_on old now kept ((q ++ first.index ∷ []) ++ first.way) (subst (HasPlace old) further has)) later in
-        let c = same_number old now kept (λ d o. charge_below d o (q ++ first.index ∷ []) t.top) in
-        record {
-          top = first.index ∷ t.top;
-          is = first.place ∙ ap (λ (w : List ℕ). first.index ∷ w) t.is;
-          asks = asks_twice old now kept new (child_charge d o q first.index) (charge_below (documents now) (ops_of now) (q ++ first.index ∷ []) t.top) (charge_below d o q (first.index ∷ t.top)) x.0 t.asks (omega (arith, c));
-          finds = subst (λ (p : List ℕ). FindsNode new p r) (append_assoc q (first.index ∷ []) t.top) t.finds;
-        }
-
-  -- where there are levels, what the search among the children came to tells what following them comes to
-  pub levels_asked : (ahead.levels.now ≡ [] → ⊥) → (now : BenchState) (r : Result (Option WalkedNode) WalkFault) → ((p : List ℕ) → FindsNode now p r) → (found : Result (Option Led) WalkFault) → FindsChild old now n ahead found → FindsLevels old now n ahead r
-  levels_asked some now r g found f q inside path at has lead = by_levels ahead.levels.now refl
-    where
-      by_levels : (xs : List LevelValue) → ahead.levels.now ≡ xs → FoundTop old now q inside path r
-      by_levels [] z = absurd (some z)
-      by_levels (l ∷ ls) z = top_asked l ls z q inside path at has lead now r g found f
-
-  pub levels_none : (ahead.levels.now ≡ [] → ⊥) → (now : BenchState) → FindsChild old now n ahead (Ok None) → FindsLevels old now n ahead (Ok None)
-  levels_none some now f q inside path at has lead = by_levels ahead.levels.now refl
-    where
-      by_levels : (xs : List LevelValue) → ahead.levels.now ≡ xs → FoundTop old now q inside path (Ok None)
-      by_levels [] z = absurd (some z)
-      by_levels (l ∷ ls) z = absurd (top_none l ls z q inside path at has lead now f)
-
-  pub levels_found : (ahead.levels.now ≡ [] → ⊥) → (now : BenchState) (kept : KeepsBench old now) (found : Led) → FindsChild old now n ahead (Ok (Some found)) → (behind : LevelsAhead) → behind.levels.now ≡ drop found.count ahead.levels.now → behind.members.now ≡ drop found.count ahead.members.now
-      → (new : BenchState) (r : Result (Option WalkedNode) WalkFault) → FindsLevels now new found.node behind r → FindsLevels old new n ahead r
-  levels_found some now kept found f behind el em new r g q inside path at has lead = by_levels ahead.levels.now refl
-    where
-      by_levels : (xs : List LevelValue) → ahead.levels.now ≡ xs → FoundTop old new q inside path r
-      by_levels [] z = absurd (some z)
-      by_levels (l ∷ ls) z = top_found l ls z q inside path at has lead now kept found f behind el em new r g
-
--- A MARK
-
-module _ (old : BenchState) (law : (q : PlanValue) → TolledIsDocument q) (valid : IsValid (plan_value old.plan)) (mark : Mark) (is : IsMark old mark) (root : WalkedNode) (at : IsAt old root []) (p : List ℕ) (names : Names (documents old) (ops_of old) mark.data p) where
-  -- the node that is named is there
-  named_has : HasPlace old p
-  named_has t e =
-      let x = names_nodes law (plan_value old.plan) valid (documents old) mark.data p names in
-      ap (λ (u : LabelledTree). has_place (alone u) p) (some_is t x.0 (sym e ∙ x.1)) ∙ x.2
-
-  -- the evidence of its levels is of what they choose
+  -- the evidence of a mark's levels is of what they choose
   named_chosen : AreOfChosen (ops_of old) (outer_listing (ops_of old)) mark.data.levels mark.members.items
   named_chosen = by_end (text_ending (ops_of old) mark.data.levels) refl is.ends
     where
@@ -187,49 +74,244 @@ module _ (old : BenchState) (law : (q : PlanValue) → TolledIsDocument q) (vali
       by_end None z h = absurd h
       by_end (Some e) z h = text_chosen (ops_of old) mark.data.levels mark.members.items e z h.inputs
 
-  -- the levels lead there from the root
-  named_leads : LeadOn (documents old) (ops_of old) [] mark.data.levels mark.members.items mark.data.inside p
-  named_leads = by_levels mark.data.levels names named_chosen
-    where
-      by_levels : (ls : List LevelValue) → NamesBy (documents old) (ops_of old) ls mark.data.inside p → AreOfChosen (ops_of old) (outer_listing (ops_of old)) ls mark.members.items
-          → LeadOn (documents old) (ops_of old) [] ls mark.members.items mark.data.inside p
-      by_levels [] h c = h.1 ∙ sym h.0
-      by_levels (l ∷ ls) h c =
-          let x = h.is_outer in
-          let listing : outer_listing (ops_of old) ≡ Some h.inner =
-          ap (option_and_then (λ o. list_in (ops_of old) (var_piece o.1))) x.is_outer ∙ ap (option_and_then (list_of (ops_of old))) x.is_list ∙ x.is_inner in
-          (h.here, h.inner, of_outer x, subst (λ o. AreOfChosen (ops_of old) o (l ∷ ls) mark.members.items) listing c, h.leads)
+  module _ (from : Stage) (stage : IsStage mark.data from) (q : List ℕ) (part : Names (documents old) (ops_of old) (part_of mark.data from) q) where
+    -- LEVELS
 
-  module _ (ahead : LevelsAhead) (el : ahead.levels.now ≡ mark.data.levels) (em : ahead.members.now ≡ mark.members.items) where
-    -- what following the levels from the root finds
-    named_top : (mid : BenchState) (r : Result (Option WalkedNode) WalkFault) → FindsLevels old mid root ahead r → FoundTop old mid [] mark.data.inside p r
-    named_top mid r f =
-        f [] mark.data.inside p at named_has
-        (subst (λ (ms : List (Option Evidence)). LeadOn (documents old) (ops_of old) [] ahead.levels.now ms mark.data.inside p) (sym em)
-        (subst (λ (ls : List LevelValue). LeadOn (documents old) (ops_of old) [] ls mark.members.items mark.data.inside p) (sym el) named_leads))
+    module _ (less : from.levels < length mark.data.levels) where
+      -- the levels so far name the node
+      front_named : NamesBy (documents old) (ops_of old) (take from.levels mark.data.levels) [] q
+      front_named = subst (λ (k : ℕ). NamesBy (documents old) (ops_of old) (take from.levels mark.data.levels) (take k mark.data.inside) q) (no_steps mark.data from stage less) part
 
-    -- what the steps to the top cost is a part of what the whole walk costs
-    pub named_asked : (mid : BenchState) (r : Result (Option WalkedNode) WalkFault) → ((p : List ℕ) → FindsNode mid p r) → (found : Result (Option WalkedNode) WalkFault) → FindsLevels old mid root ahead found
-        → AsksAtMost old mid (walk_charge (documents old) (ops_of old) p) × FindsNode mid p r
-    named_asked mid r g found f =
-        let t = named_top mid found f in
-        let c = charge_further (documents old) (ops_of old) [] t.top mark.data.inside in
-        let z = ap (walk_charge (documents old) (ops_of old)) t.is in
-        (asks_more old mid (charge_below (documents old) (ops_of old) [] t.top) (walk_charge (documents old) (ops_of old) p) (omega (arith, c, z)) t.asks, g p)
+      module _ (m : ℕ) (more : from.levels < m) (most : m ≤ length mark.data.levels) (inside a : List ℕ) (names : NamesBy (documents old) (ops_of old) (take m mark.data.levels) inside a) where
+        -- more levels of the text are those so far and others behind
+        abbrev split : IsPart mark.data.levels from.levels m
+        split = part_at mark.data.levels from.levels m more most
 
-    pub named_none : (mid : BenchState) → FindsLevels old mid root ahead (Ok None) → ⊥
-    named_none mid f = (named_top mid (Ok None) f).finds
+        -- where these name a node, they are ahead of the one so far
+        abbrev ahead : IsAhead (plan_value old.plan) valid (documents old) mark.members.items (take from.levels mark.data.levels) (split.next ∷ split.more) split.behind inside a
+        ahead =
+            named_ahead (plan_value old.plan) valid (documents old) mark.members.items (law (plan_value old.plan)) (take from.levels mark.data.levels) split.next split.more split.behind inside q a
+            (subst (λ (xs : List LevelValue). AreOfChosen (ops_of old) (outer_listing (ops_of old)) xs mark.members.items) split.all named_chosen) front_named
+            (subst (λ (xs : List LevelValue). NamesBy (documents old) (ops_of old) xs inside a) split.front names)
 
-    -- the steps below the top lead to the node
-    pub named_found : (mid : BenchState) (kept : KeepsBench old mid) (top : WalkedNode) → FindsLevels old mid root ahead (Ok (Some top)) → (new : BenchState) (r : Result (Option WalkedNode) WalkFault) (steps : List ℕ) → steps ≡ mark.data.inside
-        → FindsBelow mid new top steps r → AsksAtMost old new (walk_charge (documents old) (ops_of old) p) × FindsNode new p r
-    named_found mid kept top f new r steps es g =
-        let t = named_top mid (Ok (Some top)) f in
-        let is : p ≡ t.top ++ steps = t.is ∙ ap (λ (w : List ℕ). t.top ++ w) (sym es) in
-        let x = g t.top t.finds (has_on old mid kept (t.top ++ steps) (subst (HasPlace old) is named_has)) in
-        let c = charge_further (documents old) (ops_of old) [] t.top steps in
-        let z = ap (walk_charge (documents old) (ops_of old)) is in
-        let m = same_number old mid kept (λ d o. charge_below d o t.top steps) in (
-          asks_twice old mid kept new (charge_below (documents old) (ops_of old) [] t.top) (charge_below (documents mid) (ops_of mid) t.top steps) (walk_charge (documents old) (ops_of old) p) t.asks x.0 (omega (arith, c, z, m)),
-          subst (λ (q : List ℕ). FindsNode new q r) (sym is) x.1,
-        )
+        -- the element before them is the node so far
+        element_same : ahead.element ≡ q
+        element_same = names_one (plan_value old.plan) valid (documents old) (node (take from.levels mark.data.levels) []) ahead.element q ahead.held.named front_named
+
+        -- the first of them lead to a child
+        abbrev first : IsCut (documents old) (ops_of old) ahead.here ahead.list (split.next ∷ split.more) inside ahead.way
+        first = cut (documents old) (ops_of old) ahead.leads
+
+        -- the place is that of the child, or below it
+        child_on : a ≡ q ++ first.index ∷ first.way
+        child_on = ahead.is ∙ ap (λ (z : List ℕ). z ++ ahead.way) element_same ∙ ap (λ (w : List ℕ). q ++ w) first.place
+
+        child_has : HasPlace old (q ++ first.index ∷ [])
+        child_has = has_earlier old q first.way first.index first.index (omega arith) (subst (HasPlace old) child_on (named_has (node (take m mark.data.levels) inside) a names))
+
+        -- the levels that are ahead lead to it
+        abbrev below : LeadsBelow (documents old) (ops_of old) q (drop from.levels mark.data.levels) (drop from.levels mark.members.items) first.index
+        below = record {
+          here = ahead.here;
+          there = first.there;
+          list = ahead.list;
+          piece = first.piece;
+          is_list = subst (λ (z : List ℕ). HasListAt (documents old) (ops_of old) z ahead.here ahead.list) element_same ahead.held.is_list;
+          chosen =
+              subst (λ (k : ℕ). AreOfChosen (ops_of old) (Some ahead.list) (drop from.levels mark.data.levels) (drop k mark.members.items)) (length-take-le from.levels mark.data.levels (omega (arith, less)))
+              (subst (λ (xs : List LevelValue). AreOfChosen (ops_of old) (Some ahead.list) xs (drop (length (take from.levels mark.data.levels)) mark.members.items)) (sym split.ahead) ahead.held.chosen);
+          lead = record {
+            front = first.front;
+            behind = first.behind ++ split.behind;
+            is = split.ahead ∙ ap (λ (xs : List LevelValue). xs ++ split.behind) first.is ∙ append_assoc first.front first.behind split.behind;
+            enters = first.enters;
+          };
+        }
+
+        -- so many levels lead to it, and no more than there are
+        first_most : length first.front + from.levels ≤ m
+        first_most = (let s = split.size in let e = ap length first.is ∙ length-append first.front first.behind in omega (arith, s, e))
+
+        -- the levels so far and those that lead to the child
+        first_levels : take (from.levels + length first.front) mark.data.levels ≡ take from.levels mark.data.levels ++ first.front
+        first_levels =
+            let e : mark.data.levels ≡ (take from.levels mark.data.levels ++ first.front) ++ (first.behind ++ split.behind) =
+            sym (take-append-drop from.levels mark.data.levels) ∙ ap (λ (xs : List LevelValue). take from.levels mark.data.levels ++ xs) below.lead.is
+            ∙ sym (append_assoc (take from.levels mark.data.levels) first.front (first.behind ++ split.behind)) in
+            let l = length-append (take from.levels mark.data.levels) first.front in
+            let k = length-take-le from.levels mark.data.levels (omega (arith, less)) in
+            ap (take (from.levels + length first.front)) e ∙ take_at (take from.levels mark.data.levels ++ first.front) (first.behind ++ split.behind) (from.levels + length first.front) (omega (arith, l, k))
+
+        -- they name it
+        first_named : NamesBy (documents old) (ops_of old) (take (from.levels + length first.front) mark.data.levels) [] (q ++ first.index ∷ [])
+        first_named =
+            let opens = ahead.held.opens first.front first.index first.there first.piece first.enters in
+            let ends = cut_ends (plan_value old.plan) valid (documents old) ahead.here ahead.list (split.next ∷ split.more) inside ahead.way ahead.held.sound first in
+            let own = opened_named (documents old) (ops_of old) (take from.levels mark.data.levels ++ first.front) (ahead.element ++ first.index ∷ []) [] first.there first.piece opens ends in
+            subst (λ (xs : List LevelValue). NamesBy (documents old) (ops_of old) xs [] (q ++ first.index ∷ [])) (sym first_levels)
+            (subst (NamesBy (documents old) (ops_of old) (take from.levels mark.data.levels ++ first.front) []) (append-nil (ahead.element ++ first.index ∷ []) ∙ ap (λ (z : List ℕ). z ++ first.index ∷ []) element_same) own)
+
+      module _ (new : BenchState) (n : WalkedNode) (at : IsAt old n q) where
+        -- no part between names a node
+        none_between : (led : Led) → FindsAmong old new n (drop from.levels mark.data.levels) (drop from.levels mark.members.items) (Ok (Some led)) → from.levels + led.count ≤ length mark.data.levels
+            → NamesNoneBetween (documents old) (ops_of old) mark.data from (levels_further from led.count)
+        none_between led f most to is_stage after before a names =
+            let none = none_made to.steps to.levels (length mark.data.levels) is_stage.below (λ e. omega (arith, e, before, most)) in
+            let start = no_steps mark.data from stage less in
+            let within = is_stage.levels in
+            let lo : from.levels < to.levels = omega (arith, after, none, start) in
+            let whole = subst (λ (k : ℕ). NamesBy (documents old) (ops_of old) (take to.levels mark.data.levels) (take k mark.data.inside) a) none names in
+            let found = f q (first to.levels lo within [] a whole).index at (child_has to.levels lo within [] a whole) (below to.levels lo within [] a whole) in
+            let count = found.1.1 in
+            let size = first_most to.levels lo within [] a whole in
+            omega (arith, count, size, before, none)
+
+        module _ (p : List ℕ) (names : Names (documents old) (ops_of old) mark.data p) where
+          -- all levels name the node
+          all_named : NamesBy (documents old) (ops_of old) (take (length mark.data.levels) mark.data.levels) mark.data.inside p
+          all_named = subst (λ (xs : List LevelValue). NamesBy (documents old) (ops_of old) xs mark.data.inside p) (sym (take_all (length mark.data.levels) mark.data.levels (omega arith))) names
+
+          all_most : length mark.data.levels ≤ length mark.data.levels
+          all_most = omega arith
+
+          -- the first of those ahead lead to a child
+          abbrev next : IsCut (documents old) (ops_of old) (ahead (length mark.data.levels) less all_most mark.data.inside p all_named).here (ahead (length mark.data.levels) less all_most mark.data.inside p all_named).list
+              ((split (length mark.data.levels) less all_most mark.data.inside p all_named).next ∷ (split (length mark.data.levels) less all_most mark.data.inside p all_named).more) mark.data.inside
+              (ahead (length mark.data.levels) less all_most mark.data.inside p all_named).way
+          next = first (length mark.data.levels) less all_most mark.data.inside p all_named
+
+          -- that child is found
+          child_found : (r : Result (Option Led) WalkFault) → FindsAmong old new n (drop from.levels mark.data.levels) (drop from.levels mark.members.items) r
+              → AsksAtMost old new (child_charge (documents old) (ops_of old) q next.index) × FindsLed new (q ++ next.index ∷ []) (length next.front) r
+          child_found r f = f q next.index at (child_has (length mark.data.levels) less all_most mark.data.inside p all_named) (below (length mark.data.levels) less all_most mark.data.inside p all_named)
+
+          -- what a search among the children comes to tells what the step further comes to
+          pub levels_lead : (r : Result (Option Led) WalkFault) → FindsAmong old new n (drop from.levels mark.data.levels) (drop from.levels mark.members.items) r → (result : Result (Option Passed) WalkFault)
+              → ((index : ℕ) → IfOk result (λ x. MatchOption x ⊥ (IsNextNamed old new mark.data from (q ++ index ∷ [])))) → LeadsFurther old new mark.data from q p result
+          levels_lead r f result finds = record {
+            index = next.index;
+            rest = next.way;
+            is = child_on (length mark.data.levels) less all_most mark.data.inside p all_named;
+            asks = (child_found r f).0;
+            finds = finds next.index;
+          }
+
+          -- the child is named next
+          pub levels_found : (led : Led) → FindsAmong old new n (drop from.levels mark.data.levels) (drop from.levels mark.members.items) (Ok (Some led)) → from.levels + led.count ≤ length mark.data.levels
+              → LeadsFurther old new mark.data from q p (Ok (Some (passed_by_levels from led)))
+          levels_found led f most =
+              let x = child_found (Ok (Some led)) f in
+              let count = x.1.1 in
+              record {
+                index = next.index;
+                rest = next.way;
+                is = child_on (length mark.data.levels) less all_most mark.data.inside p all_named;
+                asks = x.0;
+                finds = record {
+                  at = x.1.0;
+                  names = subst (λ (k : ℕ). NamesBy (documents old) (ops_of old) (take (from.levels + k) mark.data.levels) [] (q ++ next.index ∷ [])) (sym count)
+                      (first_named (length mark.data.levels) less all_most mark.data.inside p all_named);
+                  next = none_between led f most;
+                };
+              }
+
+          pub levels_none : FindsAmong old new n (drop from.levels mark.data.levels) (drop from.levels mark.members.items) (Ok None) → ⊥
+          levels_none f = (child_found (Ok None) f).1
+
+    -- STEPS
+
+    module _ (all : length mark.data.levels ≤ from.levels) (less : from.steps < length mark.data.inside) (p : List ℕ) (names : Names (documents old) (ops_of old) mark.data p) where
+      -- the top to which all levels lead
+      abbrev top : IsTopNamed (documents old) (ops_of old) mark.data.levels mark.data.inside p
+      top = named_top (documents old) (ops_of old) mark.data.levels mark.data.inside p names
+
+      -- the next step
+      abbrev step : ℕ
+      step = slice_index mark.data.inside from.steps
+
+      all_levels : take from.levels mark.data.levels ≡ mark.data.levels
+      all_levels = take_all from.levels mark.data.levels all
+
+      -- the node so far is as many steps below the top
+      top_same : q ≡ top.top ++ take from.steps mark.data.inside
+      top_same =
+          names_one (plan_value old.plan) valid (documents old) (node mark.data.levels (take from.steps mark.data.inside)) q (top.top ++ take from.steps mark.data.inside)
+          (subst (λ (xs : List LevelValue). NamesBy (documents old) (ops_of old) xs (take from.steps mark.data.inside) q) all_levels part)
+          (top.shorter (take from.steps mark.data.inside) (drop from.steps mark.data.inside) (sym (take-append-drop from.steps mark.data.inside)))
+
+      -- the node is below the next step
+      step_on : p ≡ q ++ step ∷ drop (from.steps + 1) mark.data.inside
+      step_on =
+          top.is ∙ ap (λ (w : List ℕ). top.top ++ w) (sym (place_split mark.data.inside from.steps less))
+          ∙ sym (append_assoc top.top (take from.steps mark.data.inside) (step ∷ drop (from.steps + 1) mark.data.inside)) ∙ ap (λ (w : List ℕ). w ++ step ∷ drop (from.steps + 1) mark.data.inside) (sym top_same)
+
+      step_has : HasPlace old (q ++ step ∷ [])
+      step_has = has_earlier old q (drop (from.steps + 1) mark.data.inside) step step (omega arith) (subst (HasPlace old) step_on (named_has mark.data p names))
+
+      -- one step more names the child there
+      step_named : Names (documents old) (ops_of old) (part_of mark.data (step_further from)) (q ++ step ∷ [])
+      step_named =
+          let own = top.shorter (take (from.steps + 1) mark.data.inside) (drop (from.steps + 1) mark.data.inside) (sym (take-append-drop (from.steps + 1) mark.data.inside)) in
+          let e : top.top ++ take (from.steps + 1) mark.data.inside ≡ q ++ step ∷ [] =
+          ap (λ (w : List ℕ). top.top ++ w) (take_next mark.data.inside from.steps less) ∙ sym (append_assoc top.top (take from.steps mark.data.inside) (step ∷ [])) ∙ ap (λ (w : List ℕ). w ++ step ∷ []) (sym top_same) in
+          subst (λ (xs : List LevelValue). NamesBy (documents old) (ops_of old) xs (take (from.steps + 1) mark.data.inside) (q ++ step ∷ [])) (sym all_levels)
+          (subst (NamesBy (documents old) (ops_of old) mark.data.levels (take (from.steps + 1) mark.data.inside)) e own)
+
+      module _ (new : BenchState) (n : WalkedNode) (at : IsAt old n q) where
+        -- the steps to the child cost what its charge says
+        step_asked : (r : Result (Option WalkedNode) WalkFault) → FindsBelow old new n (step ∷ []) r → AsksAtMost old new (child_charge (documents old) (ops_of old) q step)
+        step_asked r f = asks_more old new (charge_below (documents old) (ops_of old) q (step ∷ [])) (child_charge (documents old) (ops_of old) q step) (omega arith) (f q at step_has).0
+
+        -- what the steps to the child come to tells what the step further comes to
+        pub step_leads : (r : Result (Option WalkedNode) WalkFault) → FindsBelow old new n (step ∷ []) r → (result : Result (Option Passed) WalkFault)
+            → ((index : ℕ) → IfOk result (λ x. MatchOption x ⊥ (IsNextNamed old new mark.data from (q ++ index ∷ [])))) → LeadsFurther old new mark.data from q p result
+        step_leads r f result finds = record {
+          index = step;
+          rest = drop (from.steps + 1) mark.data.inside;
+          is = step_on;
+          asks = step_asked r f;
+          finds = finds step;
+        }
+
+        pub step_found : (child : WalkedNode) → FindsBelow old new n (step ∷ []) (Ok (Some child)) → LeadsFurther old new mark.data from q p (Ok (Some (passed_by_step from child)))
+        step_found child f = record {
+          index = step;
+          rest = drop (from.steps + 1) mark.data.inside;
+          is = step_on;
+          asks = step_asked (Ok (Some child)) f;
+          finds = record { at = (f q at step_has).1; names = step_named; next = λ to is_stage after before a between. absurd (omega (arith, after, before)) };
+        }
+
+        pub step_none : FindsBelow old new n (step ∷ []) (Ok None) → ⊥
+        step_none f = (f q at step_has).1
+
+-- WHAT A CALL COMES TO
+
+module _ (old : BenchState) (law : (q : PlanValue) → TolledIsDocument q) (valid : IsValid (plan_value old.plan)) (mark : Mark) (is : IsMark old mark) (from : Stage) (stage : IsStage mark.data from) (new : BenchState) (n : WalkedNode) where
+  module _ (less : from.levels < length mark.data.levels) where
+    -- levels are ahead, and the search among the children failed
+    pub levels_fail : (r : Result (Option Led) WalkFault) → FindsAmong old new n (drop from.levels mark.data.levels) (drop from.levels mark.members.items) r → (result : Result (Option Passed) WalkFault)
+        → ((place : List ℕ) → IfOk result (λ x. MatchOption x ⊥ (IsNextNamed old new mark.data from place))) → GoesOnTo old new n mark.data from result
+    levels_fail r f result finds q p at part names more = levels_lead old law valid mark is from stage q part less new n at p names r f result (λ index. finds (q ++ index ∷ []))
+
+    -- levels are ahead, and the search among the children came to an end
+    pub levels_go_on : (r : Option Led) → GivesLed new (length (drop from.levels mark.data.levels)) r → FindsAmong old new n (drop from.levels mark.data.levels) (drop from.levels mark.members.items) (Ok r)
+        → GoesOnTo old new n mark.data from (Ok (option_map (passed_by_levels from) r))
+    levels_go_on None g f q p at part names more = absurd (levels_none old law valid mark is from stage q part less new n at p names f)
+    levels_go_on (Some led) g f q p at part names more =
+        let l = length-drop from.levels mark.data.levels in
+        let most = g.2 in
+        levels_found old law valid mark is from stage q part less new n at p names led f (omega (arith, l, most, less))
+
+  module _ (all : length mark.data.levels ≤ from.levels) (less : from.steps < length mark.data.inside) (index : ℕ) (same : index ≡ slice_index mark.data.inside from.steps) where
+    -- steps are ahead, and the way to the child failed
+    pub steps_fail : (r : Result (Option WalkedNode) WalkFault) → FindsBelow old new n (index ∷ []) r → (result : Result (Option Passed) WalkFault)
+        → ((place : List ℕ) → IfOk result (λ x. MatchOption x ⊥ (IsNextNamed old new mark.data from place))) → GoesOnTo old new n mark.data from result
+    steps_fail r f result finds q p at part names more =
+        step_leads old law valid mark is from stage q part all less p names new n at r (subst (λ (k : ℕ). FindsBelow old new n (k ∷ []) r) same f) result (λ index. finds (q ++ index ∷ []))
+
+    -- steps are ahead, and the way to the child came to an end
+    pub steps_go_on : (r : Option WalkedNode) → FindsBelow old new n (index ∷ []) (Ok r) → GoesOnTo old new n mark.data from (Ok (option_map (passed_by_step from) r))
+    steps_go_on None f q p at part names more = absurd (step_none old law valid mark is from stage q part all less p names new n at (subst (λ (k : ℕ). FindsBelow old new n (k ∷ []) (Ok None)) same f))
+    steps_go_on (Some child) f q p at part names more =
+        step_found old law valid mark is from stage q part all less p names new n at child (subst (λ (k : ℕ). FindsBelow old new n (k ∷ []) (Ok (Some child))) same f)

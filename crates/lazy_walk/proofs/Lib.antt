@@ -1,8 +1,10 @@
 pub mod AboveKept
 pub mod AboveSteps
+pub mod Ahead
 pub mod Childing
 pub mod Elements
 pub mod Following
+pub mod Fronts
 pub mod Kept
 pub mod LeadsHere
 pub mod Numbers

@@ -1,5 +1,5 @@
 -- The search for the node to which levels lead, among a node's siblings.
-use Rattle.std.proofs.Common.{◌≡◌, ◌∙◌, ℕ, zero, suc, ◌<◌, ◌≤◌, ◌+◌, List, [], ◌∷◌, ◌++◌, Option, Some, None, refl, sym, ap, subst, arith, length}
+use Rattle.std.proofs.Common.{◌≡◌, ℕ, suc, ◌<◌, ◌+◌, List, [], ◌∷◌, ◌++◌, Option, Some, None, sym, subst, arith, length}
 use Rattle.std.specs.Prelude.{IsTrue, MatchOption, Result, Ok, Err, IfOk}
 use Rattle.std.specs.declared.alloc.Global.{Global}
 use Rattle.std.specs.declared.rc.Rc.{Rc}
@@ -20,10 +20,9 @@ use Rattle.lazy_site.specs.Levels.{HasList}
 use Rattle.lazy_site.specs.Standing.{IsStanding}
 use Rattle.lazy_site.specs.declared.sites.Head.{Head}
 use Rattle.lazy_site.specs.declared.sites.Rest.{Rest}
-use Rattle.lazy_site.specs.declared.sites.Site.{Site}
 use Rattle.lazy_site.specs.declared.sites.Site.TheVariants.{Root, Inside, Item}
 use Rattle.lazy_site.proofs.Holders.{open_holder}
-use Rattle.lazy_walk.specs.Above.{IsItemAt, IsLedTo}
+use Rattle.lazy_walk.specs.Above.{IsLedTo}
 use Rattle.lazy_walk.specs.declared.ids.WalkedNode.{WalkedNode}
 use Rattle.lazy_walk.specs.declared.finding.LevelsAhead.{LevelsAhead}
 use Rattle.lazy_walk.specs.declared.finding.Led.{Led}

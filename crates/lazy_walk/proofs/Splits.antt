@@ -1,33 +1,33 @@
 -- The levels of a text cut after those that lead to the first tree, and the evidence behind them.
-use Rattle.std.proofs.Common.{◌≡◌, ◌∙◌, ℕ, zero, suc, ◌+◌, List, [], ◌∷◌, ◌++◌, Option, Some, None, refl, sym, ap, subst, arith, length, drop}
-use Rattle.std.specs.Prelude.{slice_get, MatchOption, option_and_then, option_map, map}
+use Rattle.std.proofs.Common.{◌≡◌, ◌∙◌, ℕ, suc, ◌+◌, List, [], ◌∷◌, ◌++◌, Option, Some, None, refl, sym, ap, subst, length, drop}
+use Rattle.std.specs.Prelude.{slice_get, MatchOption, option_and_then, option_map}
 use Rattle.std.specs.List.{last_or}
-use Rattle.mix_base.proofs.Choices.{some_is, none_some}
+use Rattle.mix_base.proofs.Choices.{some_is}
 use Rattle.mix_tree.specs.Nodes.{Documents}
-use Rattle.mix_tree.specs.declared.var.Key.{Key}
-use Rattle.node_text.specs.Node.{LevelValue, level}
+use Rattle.node_text.specs.Node.{LevelValue}
 use Rattle.plan_core.specs.declared.plan.Piece.{Piece}
 use Rattle.plan_core.specs.declared.plan.Piece.TheVariants.{Var as var_piece, LabelOf as label_piece, Text as text_piece}
 use Rattle.plan_core.specs.Plans.{Operator}
-use Rattle.plan_evidence.specs.Named.{maker, element_list, list_of, outer_of, Listing, of_pieces, of_group, Reached, IsSingle, Picks, of_member, of_piece, of_list_member, Ends, Leads, to_tree, to_element, to_pieces, before_piece, IsOuter}
+use Rattle.plan_evidence.specs.Named.{maker, element_list, list_of, outer_of, Listing, of_pieces, of_group, Reached, IsSingle, of_member, of_piece, of_list_member, Ends, Leads, to_tree, to_element, to_pieces, before_piece}
 use Rattle.plan_evidence.specs.Opened.{Enters, by_one, by_pieces}
+use Rattle.plan_levels.specs.Entered.{numbers_of}
 use Rattle.lazy_follow.specs.declared.evidence.Evidence.{Evidence}
-use Rattle.lazy_follow.specs.Following.{Choice, nothing, a_tree, a_member, a_list_among, choice, piece_choice, value_choice, without_places, list_in, Stand, Ending, before, tree_ending, choice_ending, ending, outer_ending, text_ending}
+use Rattle.lazy_follow.specs.Following.{Choice, nothing, a_tree, a_member, a_list_among, choice, piece_choice, value_choice, list_in, Stand, Ending, before, tree_ending, choice_ending, ending, outer_ending, text_ending}
 use Rattle.lazy_follow.specs.Marks.{member_ops}
 use Rattle.lazy_walk.specs.Finding.{outer_listing}
 use Rattle.lazy_walk.specs.Leading.{IsOfChosen, list_behind, number_choice, AreOfChosen}
-use Rattle.lazy_walk.proofs.OneWay.{chooses_list, chooses_group, chooses_whole, IsSplit, split}
+use Rattle.lazy_walk.proofs.OneWay.{chooses_list, chooses_group, chooses_whole, split}
 
 -- WHERE LEVELS LEAD
 
 -- the first of two places that are the same, and the others
-heads : (a b : ℕ) (xs ys : List ℕ) → a ∷ xs ≡ b ∷ ys → (a ≡ b) × (xs ≡ ys)
+pub heads : (a b : ℕ) (xs ys : List ℕ) → a ∷ xs ≡ b ∷ ys → (a ≡ b) × (xs ≡ ys)
 heads a b xs ys e = (let h : a ≡ b = cc in h, let t : xs ≡ ys = cc in t)
 
 module _ (docs : Documents) (ops : List Operator) where
   -- the levels behind those that lead to a tree go on in the list of the element that it is, or the place below ends at it
   abbrev pub GoOn : Reached → Piece → List LevelValue → List ℕ → List ℕ → Type 0
-  GoOn there piece [] inside path = path ≡ inside
+  GoOn there piece [] inside path = (path ≡ inside) × Ends docs ops there.row piece inside
   GoOn there piece (l ∷ ls) inside path =
       (v : ℕ) × (u : ℕ) × (inner : Listing) × (piece ≡ var_piece v) × (element_list (maker ops v) ≡ Some u) × (list_of ops u ≡ Some inner) × Leads docs ops there inner (l ∷ ls) inside path
 
@@ -55,7 +55,7 @@ module _ (docs : Documents) (ops : List Operator) where
 
   pub cut : {here : Reached} {list : Listing} {ls : List LevelValue} {inside path : List ℕ} → Leads docs ops here list ls inside path → IsCut here list ls inside path
   cut (to_tree {there = there} {l = l} {j = j} {piece = piece} {p = p} pick ends) =
-      record { front = l ∷ []; behind = []; is = refl; index = j; there = there; piece = piece; enters = by_one pick; way = p; place = refl; goes_on = refl }
+      record { front = l ∷ []; behind = []; is = refl; index = j; there = there; piece = piece; enters = by_one pick; way = p; place = refl; goes_on = (refl, ends) }
   cut (to_element {there = there} {inner = inner} {l = l} {ls = ls} {j = j} {v = v} {u = u} {p = p} {q = q} pick e i more) =
       record { front = l ∷ []; behind = ls; is = refl; index = j; there = there; piece = var_piece v; enters = by_one pick; way = q; place = refl; goes_on = going there ls p q v u inner e i more }
   cut {here = here} {inside = inside} (to_pieces {pieces = pieces} {inner = inner} {l = l} {v = v} {i = i} {q = q} get t lo more) =
@@ -74,14 +74,13 @@ module _ (docs : Documents) (ops : List Operator) where
         goes_on = x.goes_on;
       }
 
-  -- the place to which levels lead is some place, and then the place below
-  pub top_of : {here : Reached} {list : Listing} {ls : List LevelValue} {inside path : List ℕ} → Leads docs ops here list ls inside path → (k : ℕ) × (top : List ℕ) × (path ≡ k ∷ (top ++ inside))
-  top_of (to_tree {j = j} pick ends) = (j, [], refl)
-  top_of (to_element {j = j} pick e i more) = (let x = top_of more in (j, x.0 ∷ x.1, ap (λ (w : List ℕ). j ∷ w) x.2))
-  top_of {here = here} {inside = inside} (to_pieces {pieces = pieces} {l = l} {i = i} {q = q} get t lo more) =
-      let x = top_of more in
-      let z : q ≡ x.1 ++ inside = (heads i x.0 q (x.1 ++ inside) x.2).1 in
-      (before_piece docs pieces here.row l.piece + i, x.1, ap (λ (w : List ℕ). (before_piece docs pieces here.row l.piece + i) ∷ w) z)
+-- THE LIST BEHIND LEVELS
+
+-- the list in which levels go on behind those of some numbers, by what these choose
+abbrev pub after_numbers : List Operator → Option Listing → List ℕ → Option Listing
+after_numbers ops o [] = o
+after_numbers ops None (n ∷ ns) = None
+after_numbers ops (Some list) (n ∷ ns) = after_numbers ops (list_behind ops (number_choice ops list n)) ns
 
 -- EVIDENCE BEHIND
 
@@ -91,6 +90,14 @@ module _ (docs : Documents) (ops : List Operator) where
   chooses_tree pieces n (var_piece v) get single = ap (piece_choice ops []) get ∙ ap (value_choice v []) single
   chooses_tree pieces n (label_piece v) get single = ap (piece_choice ops []) get
   chooses_tree pieces n (text_piece label) get single = ap (piece_choice ops []) get
+
+  -- levels to a tree go on in the list that the tree is
+  pub entered_list : {here there : Reached} {list : Listing} {ls : List LevelValue} {j : ℕ} {piece : Piece} → Enters docs ops here list ls j there piece → after_numbers ops (Some list) (numbers_of ls) ≡ list_in ops piece
+  entered_list (by_one (of_member {n = n} {keys = keys} {piece = x} {l = l} o m)) = ap (list_behind ops) (chooses_whole ops n keys x l.piece o)
+  entered_list (by_one (of_piece {pieces = pieces} {l = l} {piece = x} get t single)) = ap (list_behind ops) (chooses_tree pieces l.piece x get single)
+  entered_list (by_one (of_list_member {pieces = pieces} {v = v} {n = n} {keys = keys} {piece = x} {l = l} get lo m)) = ap (list_behind ops) (chooses_group ops pieces l.piece v n keys x get lo)
+  entered_list (by_pieces {pieces = pieces} {inner = inner} {l = l} {ls = ls} {v = v} get t lo more) =
+      ap (λ c. after_numbers ops (list_behind ops c) (numbers_of ls)) (chooses_list ops pieces inner l.piece v get lo) ∙ entered_list more
 
   -- the evidence behind that of levels to a tree is chosen from the tree's list on
   pub chosen_behind : {here there : Reached} {list : Listing} {ls : List LevelValue} {j : ℕ} {piece : Piece} → Enters docs ops here list ls j there piece → (behind : List LevelValue) (ms : List (Option Evidence))

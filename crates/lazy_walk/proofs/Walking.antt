@@ -108,7 +108,7 @@ asks_more a b m n l h told forward = (let x = h told forward in omega (arith, x,
 -- PLACES
 
 -- where a place is, there is a first tree
-has_first : (f : Forest) (p : List ℕ) → has_place f p ≡ true → is_some (first_label f) ≡ true
+pub has_first : (f : Forest) (p : List ℕ) → has_place f p ≡ true → is_some (first_label f) ≡ true
 has_first f [] h = h
 has_first none (k ∷ p) h = absurd (nowhere k p h)
 has_first (tree label kids rest) (k ∷ p) h = refl

@@ -8,7 +8,7 @@ use Rattle.lxp_core.specs.declared.fault.WalkFault.{WalkFault}
 use Rattle.plan_core.specs.declared.plan.Piece.{Piece}
 use Rattle.plan_core.specs.declared.plan.Piece.TheVariants.{Var as var_piece}
 use Rattle.plan_core.specs.Plans.{Operator}
-use Rattle.plan_evidence.specs.Named.{maker, element_list, list_of, outer_of, IsOuter, Leads, Listing, Names, Reached}
+use Rattle.plan_evidence.specs.Named.{maker, element_list, list_of, outer_of, IsOuter, Listing, Names, Reached}
 use Rattle.plan_evidence.specs.Opened.{Enters}
 use Rattle.lazy_follow.specs.declared.evidence.Evidence.{Evidence}
 use Rattle.lazy_follow.specs.Following.{list_in}
@@ -63,12 +63,6 @@ module _ (docs : Documents) (ops : List Operator) where
     pub is_list : HasListAt q here list
     pub chosen : AreOfChosen ops (Some list) levels members
     pub lead : Lead docs ops here list levels j there piece
-
-  -- levels that are ahead of the node at a place lead to another place, counted from that one: into the list of the element there, or, where there are none, as the
-  -- place below does
-  abbrev pub LeadOn : List ℕ → List LevelValue → List (Option Evidence) → List ℕ → List ℕ → Type 0
-  LeadOn q [] ms inside path = path ≡ inside
-  LeadOn q (l ∷ ls) ms inside path = (here : Reached) × (list : Listing) × HasListAt q here list × AreOfChosen ops (Some list) (l ∷ ls) ms × Leads docs ops here list (l ∷ ls) inside path
 
 -- the list of the outer element, as a plan makes it
 abbrev pub outer_listing : List Operator → Option Listing
@@ -127,19 +121,6 @@ FindsChild old new n ahead result =
     (q : List ℕ) (j : ℕ) → IsAt old n q → HasPlace old (q ++ j ∷ []) → (x : LeadsBelow (documents old) (ops_of old) q ahead.levels.now ahead.members.now j)
     → AsksAtMost old new (child_charge (documents old) (ops_of old) q j) × FindsLed new (q ++ j ∷ []) (length x.lead.front) result
 
--- where all levels that are ahead lead on from a node to a place, the node at their end is found by what the steps there cost
-pub record FoundTop (old new : BenchState) (q inside path : List ℕ) (result : Result (Option WalkedNode) WalkFault) : Type 0 where
-  pub top : List ℕ
-  pub is : path ≡ top ++ inside
-  pub asks : AsksAtMost old new (charge_below (documents old) (ops_of old) q top)
-  pub finds : FindsNode new (q ++ top) result
-
--- over told sources, where levels that are ahead lead on from a node, the node at their end is found
-abbrev pub FindsLevels : BenchState → BenchState → WalkedNode → LevelsAhead → Result (Option WalkedNode) WalkFault → Type 0
-FindsLevels old new n ahead result =
-    (q inside path : List ℕ) → IsAt old n q → HasPlace old (q ++ path) → LeadOn (documents old) (ops_of old) q ahead.levels.now ahead.members.now inside path
-    → FoundTop old new q inside path result
-
 -- over told sources the sibling that is so many places to the right of a node is found by what the steps to it cost
 abbrev pub FindsSibling : BenchState → BenchState → WalkedNode → ℕ → Result (Option WalkedNode) WalkFault → Type 0
 FindsSibling old new first more result =
@@ -163,7 +144,8 @@ pub record IsFurther (old new : BenchState) (n : WalkedNode) (d : NodeValue) (fr
 abbrev pub GivesFurther : BenchState → BenchState → WalkedNode → NodeValue → Stage → Option Passed → Type 0
 GivesFurther old new n d from r = MatchOption r (Unit {0}) (IsFurther old new n d from)
 
--- a node on the way of a text stands at the place that the part of the text names which leads to it, and no smaller part names a node behind the one it was found from
+-- a node on the way of a text stands at the place that the part of the text names which leads to it, and no smaller part names a node behind the one it was
+-- found from
 pub record IsNextNamed (old new : BenchState) (d : NodeValue) (from : Stage) (place : List ℕ) (x : Passed) : Type 0 where
   pub at : IsAt new x.node place
   pub names : Names (documents old) (ops_of old) (part_of d x.stage) place
@@ -177,8 +159,8 @@ pub record LeadsFurther (old new : BenchState) (d : NodeValue) (from : Stage) (q
   pub asks : AsksAtMost old new (child_charge (documents old) (ops_of old) q index)
   pub finds : IfOk result (λ r. MatchOption r ⊥ (IsNextNamed old new d from (q ++ index ∷ [])))
 
--- over told sources, where a part of a text names the node at which an identifier stands, and the whole text, of which more is ahead, names another, a call finds the
--- next node on the way
+-- over told sources, where a part of a text names the node at which an identifier stands, and the whole text, of which more is ahead, names another, a call
+-- finds the next node on the way
 abbrev pub GoesOnTo : BenchState → BenchState → WalkedNode → NodeValue → Stage → Result (Option Passed) WalkFault → Type 0
 GoesOnTo old new n d from result =
     (q p : List ℕ) → IsAt old n q → Names (documents old) (ops_of old) (part_of d from) q → Names (documents old) (ops_of old) d p → size_of from < whole_size d
@@ -196,10 +178,6 @@ abbrev pub ChildLed : WalkedNode → LevelsAhead → BenchState → BenchState �
 ChildLed n ahead old new r =
     IfOk r (λ x. GivesLed new (length ahead.levels.now) x × LedLower (node_height old n) new x) × (IsTrue (told old) → FindsChild old new n ahead r)
 
--- what following all levels that are ahead of a node comes to
-abbrev pub NodeLed : WalkedNode → LevelsAhead → BenchState → BenchState → Result (Option WalkedNode) WalkFault → Type 0
-NodeLed n ahead old new r = IfOk r (λ x. GivesNode new x × HasNoHigher (node_height old n) new x) × (IsTrue (told old) → FindsLevels old new n ahead r)
-
 -- what so many steps to the right of a node come to
 abbrev pub SiblingAt : WalkedNode → ℕ → BenchState → BenchState → Result (Option WalkedNode) WalkFault → Type 0
 SiblingAt first more old new r = IfOk r (λ x. GivesNode new x × HasNoHigher (node_height old first) new x) × (IsTrue (told old) → FindsSibling old new first more r)
@@ -207,7 +185,3 @@ SiblingAt first more old new r = IfOk r (λ x. GivesNode new x × HasNoHigher (n
 -- what the steps to a node's child at an index come to
 abbrev pub ChildAt : WalkedNode → ℕ → BenchState → BenchState → Result (Option WalkedNode) WalkFault → Type 0
 ChildAt n index old new r = IfOk r (λ x. GivesNode new x × HasLower (node_height old n) new x) × (IsTrue (told old) → FindsBelow old new n (index ∷ []) r)
-
--- what the steps along a place below a node come to
-abbrev pub NodeBelow : WalkedNode → List ℕ → BenchState → BenchState → Result (Option WalkedNode) WalkFault → Type 0
-NodeBelow n path old new r = IfOk r (λ x. GivesNode new x × HasNoHigher (node_height old n) new x) × (IsTrue (told old) → FindsBelow old new n path r)

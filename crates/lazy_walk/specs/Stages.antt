@@ -4,6 +4,9 @@ use Rattle.mix_tree.specs.Nodes.{Documents}
 use Rattle.node_text.specs.Node.{NodeValue, node}
 use Rattle.plan_core.specs.Plans.{Operator}
 use Rattle.plan_evidence.specs.Named.{Names}
+use Rattle.lazy_walk.specs.declared.finding.Led.{Led}
+use Rattle.lazy_walk.specs.declared.ids.WalkedNode.{WalkedNode}
+use Rattle.lazy_walk.specs.declared.stage.Passed.{Passed}
 use Rattle.lazy_walk.specs.declared.stage.Stage.{Stage}
 
 -- a text has so many levels and steps, and steps only behind all of its levels
@@ -28,3 +31,19 @@ whole_size d = length d.levels + length d.inside
 abbrev pub NamesNoneBetween : Documents → List Operator → NodeValue → Stage → Stage → Type 0
 NamesNoneBetween docs ops d from to =
     (part : Stage) → IsStage d part → size_of from < size_of part → size_of part < size_of to → (a : List ℕ) → Names docs ops (part_of d part) a → ⊥
+
+-- so many levels further on
+abbrev pub levels_further : Stage → ℕ → Stage
+levels_further from count = record { levels = from.levels + count; steps = 0 }
+
+-- one step of the place below further on
+abbrev pub step_further : Stage → Stage
+step_further from = record { levels = from.levels; steps = from.steps + 1 }
+
+-- a node to which more levels lead, as one on the way
+abbrev pub passed_by_levels : Stage → Led → Passed
+passed_by_levels from led = record { node = led.node; stage = levels_further from led.count }
+
+-- a node to which one more step leads, as one on the way
+abbrev pub passed_by_step : Stage → WalkedNode → Passed
+passed_by_step from n = record { node = n; stage = step_further from }

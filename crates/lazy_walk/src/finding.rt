@@ -1,4 +1,6 @@
 // The way to the node that a text names, found node by node.
+ghost use Rattle.std.specs.Prelude.{◌≡◌, ◌<◌, ◌+◌, ◌^◌, MatchOption, option_map};
+ghost use Rattle.lazy_walk.specs.Stages.{passed_by_levels, passed_by_step};
 
 use crate::ids::WalkedNode;
 use crate::leading::levels_led;
@@ -27,19 +29,28 @@ pub(crate) struct Led {
 }
 
 /// The node to which more levels lead, as one on the way.
-fn passed_levels(led: Option<Led>, from: Stage) -> Option<Passed> {
+fn passed_levels(led: Option<Led>, from: Stage) -> Option<Passed>
+    requires fits { MatchOption led (Unit {0}) (λ led. from.levels + led.count < 2 ^ 64) }
+    ensures { result ≡ option_map (passed_by_levels from) led }
+{
     match led {
         None => None,
         Some(led) => {
             let levels = from.levels + led.count;
             let stage = Stage { levels, steps: 0 };
-            Some(Passed { node: led.node, stage })
+            Some(Passed {
+                node: led.node,
+                stage,
+            })
         }
     }
 }
 
 /// The node to which one more step below the levels leads, as one on the way.
-fn passed_step(child: Option<WalkedNode>, from: Stage) -> Option<Passed> {
+fn passed_step(child: Option<WalkedNode>, from: Stage) -> Option<Passed>
+    requires fits { from.steps + 1 < 2 ^ 64 }
+    ensures { result ≡ option_map (passed_by_step from) child }
+{
     match child {
         None => None,
         Some(node) => {

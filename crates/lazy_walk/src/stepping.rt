@@ -1,4 +1,4 @@
-// Steps from a node to a child or a sibling at an index, and along a place below it.
+// Steps from a node to a child or a sibling at an index.
 use crate::ids::WalkedNode;
 use crate::walk::Walk;
 use lazy_plan::WalkFault;
@@ -7,7 +7,7 @@ use plan_core::tolled_is_document;
 use std::alloc::Global;
 
 impl Walk {
-    ghost use Rattle.lazy_walk.specs.Finding.{ChildAt, NodeBelow, SiblingAt, Steps};
+    ghost use Rattle.lazy_walk.specs.Finding.{ChildAt, SiblingAt, Steps};
     ghost use Rattle.lazy_walk.specs.Walks.{state_of, IsWalkOf};
     ghost use Rattle.lazy_walk.specs.Places.{IsNode};
 
@@ -35,7 +35,7 @@ impl Walk {
     }
 
     /// The child of a node at an index; `None` where there is none.
-    fn child_at<S: Sources>(
+    pub(crate) fn child_at<S: Sources>(
         &mut self,
         alloc: Global,
         s: &mut S,
@@ -51,27 +51,5 @@ impl Walk {
             None => Ok(None),
             Some(first) => self.sibling_at(alloc, s, first, index),
         }
-    }
-
-    /// The node at a place below a node; `None` where there is none.
-    pub(crate) fn node_below<S: Sources>(
-        &mut self,
-        alloc: Global,
-        s: &mut S,
-        n: WalkedNode,
-        steps: &[u64],
-    ) -> Result<Option<WalkedNode>, WalkFault>
-        requires walk { IsWalkOf (S.view s.old) self.old }
-        requires node { IsNode (state_of (S.view s.old) self.old) n }
-        ensures { Steps S.view S.came_from s.old self.old s.new self.new (NodeBelow n steps.now) result }
-    {
-        let mut node = n;
-        for step in steps {
-            match self.child_at(alloc, s, &node, *step)? {
-                None => return Ok(None),
-                Some(child) => node = child,
-            }
-        }
-        Ok(Some(node))
     }
 }

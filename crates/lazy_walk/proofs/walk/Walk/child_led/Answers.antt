@@ -1,4 +1,4 @@
-use Rattle.std.proofs.Common.{rules, arith, ◌≡◌, ℕ, List, Some, None, ◌∙◌}
+use Rattle.std.proofs.Common.{rules, ◌∙◌}
 use Rattle.plan_core.specs.PlanMade.{plan_value}
 use Rattle.lazy_walk.specs.Walks.{state_of, plan_of}
 use Rattle.lazy_walk.proofs.Searching.{led_lower, down_asked, down_none, down_found}
