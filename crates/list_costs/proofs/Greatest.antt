@@ -14,7 +14,6 @@ use Rattle.browse_visit.specs.Shapes.{shapes_of}
 use Rattle.browse_class.specs.Cheap.{AtMost, IsWithin}
 use Rattle.browse_class.specs.Classes.{op_bound, all_bounds, sorts_any, class_by, class_in, constant}
 use Rattle.browse_class.specs.Facts.{Facts, facts}
-use Rattle.browse_class.specs.declared.class.Class.{Class}
 use Rattle.browse_class.specs.declared.class.Class.TheVariants.{Bounded, Browsable, Unbrowsable}
 use Rattle.plan_class.proofs.Groups.{groups_bound_nothing}
 use Rattle.list_costs.specs.Constant.{ClassIsOfLists, IsGreatestOfLists, SomeListHas}
@@ -93,20 +92,20 @@ module _ (of : ℕ → Facts) where
   -- all numbers are at least 1 together
   at_least_one : (ops : List Op) (k : ℕ) → all_bounds (map op_of ops) of ≡ Some k → 1 ≤ k
   at_least_one [] k e = let same : 1 ≡ k = some_is 1 k e in omega (arith, same)
-  at_least_one (op ∷ ops) k e = by_rest (op_bound (op_of op) of) (all_bounds (map op_of ops) of) refl e
+  at_least_one (op ∷ ops) k e = by_rest (op_bound (op_of op) of) (all_bounds (map op_of ops) of) e (λ m same. at_least_one ops m same)
     where
-      by_rest : (x y : Option ℕ) → all_bounds (map op_of ops) of ≡ y → larger x y ≡ Some k → 1 ≤ k
-      by_rest None y same g = none_some k g
-      by_rest (Some a) None same g = none_some k g
-      by_rest (Some a) (Some b) same g =
-          let rest = at_least_one ops b same in
+      by_rest : (x y : Option ℕ) → larger x y ≡ Some k → ((m : ℕ) → y ≡ Some m → 1 ≤ m) → 1 ≤ k
+      by_rest None y g rest = none_some k g
+      by_rest (Some a) None g rest = none_some k g
+      by_rest (Some a) (Some b) g rest =
+          let low = rest b refl in
           let whole : max a b ≡ k = some_is (max a b) k g in
-          omega (arith, rest, whole)
+          omega (arith, low, whole)
 
   -- the greatest of all numbers is 1, or that of some list of a new element
   some_has : (ops : List Op) (most : Option ℕ) → all_bounds (map op_of ops) of ≡ most → (most ≡ Some 1) ⊎ SomeHas ops most
   some_has [] most e = inl (sym e)
-  some_has (op ∷ ops) most e = by_side (one_of (op_bound (op_of op) of) (all_bounds (map op_of ops) of) most e)
+  some_has (op ∷ ops) most e = by_side (one_of (op_bound (op_of op) of) (all_bounds (map op_of ops) of) most e) (λ there. some_has ops most there)
     where
       by_zero : (most ≡ Some 0) ⊎ SomeHas (op ∷ ops) most → (most ≡ Some 1) ⊎ SomeHas (op ∷ ops) most
       by_zero (inl none) = let low = at_least_one (op ∷ ops) 0 (e ∙ none) in absurd (omega (arith, low))
@@ -116,9 +115,11 @@ module _ (of : ℕ → Facts) where
       by_rest (inl one) = inl one
       by_rest (inr has) = inr (one_later op ops most has)
 
-      by_side : (op_bound (op_of op) of ≡ most) ⊎ (all_bounds (map op_of ops) of ≡ most) → (most ≡ Some 1) ⊎ SomeHas (op ∷ ops) most
-      by_side (inl here) = by_zero (first_has op ops most here)
-      by_side (inr there) = by_rest (some_has ops most there)
+      by_side :
+          (op_bound (op_of op) of ≡ most) ⊎ (all_bounds (map op_of ops) of ≡ most) → (all_bounds (map op_of ops) of ≡ most → (most ≡ Some 1) ⊎ SomeHas ops most)
+          → (most ≡ Some 1) ⊎ SomeHas (op ∷ ops) most
+      by_side (inl here) rest = by_zero (first_has op ops most here)
+      by_side (inr there) rest = by_rest (rest there)
 
 -- the constant of a bounded class
 bounded_by : (sorts : Bool) (most : Option ℕ) (k : ℕ) → cond sorts Unbrowsable (class_by most) ≡ Bounded k → most ≡ Some k
@@ -160,7 +161,7 @@ browsable_lists shapes plan e = unknown (some_has of plan.ops.items None none)
     none : all_bounds (map op_of plan.ops.items) of ≡ None
     none = browsable_by (sorts_any (plan_value plan).ops) (constant (shapes_of shapes) (plan_value plan).ops) e
 
-    unknown : (None ≡ Some 1) ⊎ SomeHas of plan.ops.items None → SomeListHas shapes plan None
+    unknown : (◌≡◌ {A = Option ℕ} None (Some 1)) ⊎ SomeHas of plan.ops.items None → SomeListHas shapes plan None
     unknown (inl same) = none_some 1 same
     unknown (inr has) = has
 
