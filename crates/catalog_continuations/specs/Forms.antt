@@ -11,7 +11,8 @@ words_in DeepBracket = word.Source ∷ word.Name ∷ word.Bracket ∷ word.File 
 words_in Bracket = word.Source ∷ word.Name ∷ word.Bracket ∷ word.File ∷ word.Chunk ∷ word.Number ∷ []
 words_in Csv = word.Source ∷ word.Name ∷ word.Csv ∷ word.File ∷ word.ColumnsWord ∷ word.Columns ∷ word.Chunk ∷ word.Number ∷ []
 words_in Table =
-    word.Source ∷ word.Name ∷ word.Table ∷ word.File ∷ word.TableName ∷ word.KeyWord ∷ word.Key ∷ word.ColumnsWord ∷ word.TableColumns ∷ word.Chunk ∷ word.Number ∷ []
+    word.Source ∷ word.Name ∷ word.Table ∷ word.File ∷ word.TableName
+    ∷ word.KeyWord ∷ word.Key ∷ word.ColumnsWord ∷ word.TableColumns ∷ word.Chunk ∷ word.Number ∷ []
 words_in Remote = word.Source ∷ word.Name ∷ word.Remote ∷ word.File ∷ word.Requests ∷ word.Number ∷ []
 words_in Json = word.Source ∷ word.Name ∷ word.Json ∷ word.File ∷ word.Chunk ∷ word.Number ∷ []
 words_in View = word.Source ∷ word.Name ∷ word.View ∷ word.File ∷ []
