@@ -1,3 +1,4 @@
+pub mod Greatest
 pub mod ListsKept
 pub mod SaidAlike
 pub mod Within

@@ -1,10 +1,9 @@
 -- In the list of a new element steps cost at most what is known of it.
-use Rattle.std.proofs.Common.{◌≡◌, ◌<◌, ℕ, List, [], Option, Some, None, subst, arith, length}
-use Rattle.std.specs.Prelude.{slice_get}
+use Rattle.std.proofs.Common.{◌≡◌, ◌<◌, ℕ, List, [], Option, Some, None, subst, arith}
 use Rattle.std.specs.List.{AllByRecursion}
 use Rattle.mix_tree.specs.Nodes.{Documents}
 use Rattle.plan_core.specs.declared.plan.Op.TheVariants.{CreateElement}
-use Rattle.plan_core.specs.PlanMade.{op_of, plan_value}
+use Rattle.plan_core.specs.PlanMade.{plan_value}
 use Rattle.plan_core.specs.Plans.{Operator}
 use Rattle.plan_core.specs.Shapes.{shape_of}
 use Rattle.plan_core.specs.TolledRows.{TolledRow, TolledValue, of_source, element, trees, tolled_value}

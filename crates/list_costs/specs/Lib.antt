@@ -1,3 +1,4 @@
+pub mod Constant
 pub mod Law
 pub mod Lists
 pub mod Told

@@ -1,4 +1,5 @@
 // What is promised of the numbers of lists.
+ghost use Rattle.list_costs.specs.Constant.{ClassIsOfLists};
 ghost use Rattle.list_costs.specs.Law.{ListsCostAsTold};
 
 use browse_class::events_are_as_known;
@@ -12,3 +13,9 @@ pub fn lists_cost_as_told()
     valid_plans_are_typed();
     events_are_as_known();
 }
+
+/// The number of a bounded class is the greatest of 1 and the numbers that are told of the lists of new elements, all of which are known; and a class is
+/// browsable only where a number of such a list isn't known.
+pub fn class_is_of_lists()
+    ensures { ClassIsOfLists }
+{}

@@ -10,5 +10,5 @@ mod reasons;
 mod told;
 mod words;
 
-pub use law::lists_cost_as_told;
+pub use law::{class_is_of_lists, lists_cost_as_told};
 pub use told::list_words;

@@ -1,8 +1,10 @@
 -- The number of the line of a place that stands further on in it.
-use Rattle.std.proofs.Common.{◌≡◌, ◌≢◌, ◌∙◌, ◌+◌, ◌-◌, ◌≤◌, ◌==◌, ℕ, zero, suc, List, false, refl, ap, length, take, drop, get_or, arith}
+use Rattle.std.proofs.Common.{◌≡◌, ◌≢◌, ◌∙◌, ◌+◌, ◌-◌, ◌≤◌, ◌==◌, ℕ, zero, suc, List, false, refl, ap, sym, length, take, drop, get_or, arith}
 use Rattle.std.proofs.lemmas.Bool.Decides.{nat_tests}
 use Rattle.std.proofs.lemmas.Grind.{common_steps}
+use Rattle.std.proofs.lemmas.List.{get_or-take, length-take-le}
 use Rattle.std.proofs.lemmas.List.Sums.{count_by_more_no}
+use Rattle.catalog_continuations.specs.GoesOn.{IsOneLine}
 use Rattle.text_places.specs.Lines.{IsWithoutLf}
 use Rattle.refusal_words.specs.Catalog.{line_at}
 
@@ -31,3 +33,10 @@ pub line_further :
     (text : List ℕ) (begin n : ℕ) → begin + n ≤ length text → IsWithoutLf (take (length text - begin) (drop begin text)) 0 n
     → line_at text (begin + n) ≡ line_at text begin
 line_further text begin n h alone = same_line text begin n (begin + n) refl h (alone_in text begin (length text - begin) n (omega (arith, h)) alone)
+
+-- a front of a text without LF has none
+pub front_one_line : (at : ℕ) (line : List ℕ) → at ≤ length line → IsOneLine line → IsOneLine (take at line)
+front_one_line at line inside one = λ k less.
+    let long : length (take at line) ≡ at = length-take-le at line inside in
+    let same : get_or (take at line) k 0 ≡ get_or line k 0 = get_or-take at line k 0 (omega (arith, less, long)) in
+    λ e. one k (omega (arith, less, long, inside)) (sym same ∙ e)

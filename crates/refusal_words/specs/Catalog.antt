@@ -1,5 +1,10 @@
 -- What is said of a refused catalog.
-use Rattle.std.specs.Prelude.{◌≡◌, ◌⊎◌, ◌<◌, ◌+◌, ◌==◌, ℕ, List, ◌++◌, length, take, count_by}
+use Rattle.std.specs.Prelude.{◌≡◌, ◌⊎◌, ◌<◌, ◌+◌, ◌==◌, ℕ, List, ◌++◌, length, take, count_by, codes}
+use Rattle.std.specs.List.{flat_map}
+use Rattle.catalog_continuations.specs.declared.form_word.FormWord.{FormWord}
+use Rattle.catalog_continuations.specs.Next.{AreNext}
+use Rattle.catalog_continuations.specs.Words.{name_of}
+use Rattle.refusal_words.specs.Listing.{item_line}
 use Rattle.text_places.specs.Lines.{HasLineBegin}
 use Rattle.text_places.specs.Shown.{ShowsPlace}
 use Rattle.mix_catalog.specs.declared.fault.CatalogFault.{CatalogFault}
@@ -44,3 +49,11 @@ ExplainsAt text IsPlace words = (at : ℕ) × IsPlace at × (shown : List ℕ) �
 -- words explain a fault of a catalog's text: a place in the line that it names is shown, or some place where the text has no such line
 abbrev pub ExplainsCatalog : List ℕ → CatalogFault → List ℕ → Type 0
 ExplainsCatalog text fault words = ExplainsAt text (λ at. LacksLine text (line_of fault) ⊎ IsFaultPlace text fault at) words
+
+-- the line of the name of a word
+abbrev pub word_line : FormWord → List ℕ
+word_line w = item_line (name_of w)
+
+-- a hint lists the words that can stand next in a line behind a front
+abbrev pub ListsNext : List ℕ → List ℕ → Type 0
+ListsNext front hint = (words : List FormWord) × AreNext front words × (hint ≡ codes "here could stand:\n" ++ flat_map word_line words)

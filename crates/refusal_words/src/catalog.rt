@@ -1,18 +1,15 @@
 // The refusal of a catalog in words.
-ghost use Rattle.std.specs.Prelude.{◌≡◌, ◌≤◌, ◌⊎◌, IfOk, length};
+ghost use Rattle.std.specs.Prelude.{◌≡◌, ◌≤◌, ◌⊎◌, ◌++◌, IfOk, codes, length};
+ghost use Rattle.std.specs.List.{flat_map};
+ghost use Rattle.catalog_continuations.specs.GoesOn.{IsOneLine};
 ghost use Rattle.text_places.specs.Lines.{IsWithoutLf};
-ghost use Rattle.refusal_words.specs.Catalog.{BeginsLine, ExplainsCatalog, LacksLine, line_of};
+ghost use Rattle.refusal_words.specs.Catalog.{BeginsLine, ExplainsCatalog, LacksLine, ListsNext, line_of, word_line};
 
-use crate::forms::{FORMS, FormWord, goes_on, goes_on_with, may_be_of};
 use crate::listing::push_item;
+use catalog_continuations::{FormWord, misfit_place, next_words};
 use mix_catalog::CatalogFault;
-use mix_words::places::word_place;
-use mix_words::words::is_blank_byte;
 use std::alloc::{AllocError, Global};
 use text_places::place_text;
-
-// The most words of a line that are looked at.
-const WORDS: usize = 32;
 
 // The number of the line that a fault names, from 1; 1 where it names none.
 fn line_number(fault: CatalogFault) -> usize
@@ -50,6 +47,7 @@ fn line_begin(text: &[u8], number: usize) -> usize
 fn first_line(text: &[u8]) -> &[u8]
     ensures within { length result.now ≤ length text.now }
     ensures alone { IsWithoutLf text.now 0 (length result.now) }
+    ensures one { IsOneLine result.now }
 {
     let end = match text.iter().position(|b| *b == b'\n') {
         Some(end) => end,
@@ -61,78 +59,35 @@ fn first_line(text: &[u8]) -> &[u8]
     }
 }
 
-// Where a word ends that begins at a place.
-fn word_end(line: &[u8], begin: usize) -> usize
-    ensures { result ≤ length line.now }
+// The names of words of forms, a line each. `Err`: memory.
+fn word_lines(alloc: Global, words: &[FormWord]) -> Result<Vec<u8>, AllocError>
+    ensures { IfOk result (λ lines. lines.items ≡ flat_map word_line words.now) }
 {
-    for end in begin..line.len() {
-        if is_blank_byte(line[end]) {
-            return end;
-        }
-    }
-    line.len()
-}
-
-// Where the first word of a line begins with which no line of a form goes on; the end of the line where each word does. `Err`: memory.
-fn misfit(alloc: Global, line: &[u8]) -> Result<usize, AllocError>
-    ensures { IfOk result (λ at. at ≤ length line.now) }
-{
-    for count in 0..WORDS {
-        let Some(begin) = word_place(line, count) else {
-            return Ok(line.len());
-        };
-        let end = word_end(line, begin);
-        if !goes_on(alloc, &line[..end])? {
-            return Ok(begin);
-        }
-    }
-    Ok(line.len())
-}
-
-// Whether a name is one of some.
-fn has_name(names: &[&str], name: &str) -> bool {
-    names.iter().any(|n| *n == name)
-}
-
-// Adds the names of the words of a form with which a front goes on. `Err`: memory.
-fn push_names(
-    alloc: Global,
-    front: &[u8],
-    form: &[FormWord],
-    names: &mut Vec<&'static str>,
-) -> Result<(), AllocError> {
-    if !may_be_of(front, form) {
-        return Ok(());
-    }
-    for passed in 0..=form.len() {
-        let name = match form.get(passed) {
-            Some(word) => word.name,
-            None => "the end of the line",
-        };
-        if !has_name(names, name) && goes_on_with(alloc, front, &form[passed..])? {
-            names.push(name)?;
-        }
-    }
-    Ok(())
-}
-
-// The names of the words with which a front goes on. `Err`: memory.
-fn next_names(alloc: Global, front: &[u8]) -> Result<Vec<&'static str>, AllocError> {
-    let mut names = Vec::new(alloc);
-    for form in FORMS {
-        push_names(alloc, front, form, &mut names)?;
-    }
-    Ok(names)
-}
-
-// The words with which a front goes on, a line each. `Err`: memory.
-fn next_lines(alloc: Global, front: &[u8]) -> Result<Vec<u8>, AllocError> {
-    let names = next_names(alloc, front)?;
-    let mut lines = Vec::from_slice(alloc, b"here could stand:\n")?;
-    for name in &names {
-        push_item(&mut lines, name.as_bytes())?;
+    let mut lines = Vec::new(alloc);
+    for word in words {
+        push_item(&mut lines, word.name().as_bytes())?;
     }
     Ok(lines)
+}
+
+// The names of words of forms, a line each, after a heading. `Err`: memory.
+fn listed(alloc: Global, words: &[FormWord]) -> Result<Vec<u8>, AllocError>
+    ensures { IfOk result (λ hint. hint.items ≡ codes "here could stand:\n" ++ flat_map word_line words.now) }
+{
+    let mut hint = Vec::from_slice(alloc, b"here could stand:\n")?;
+    let lines = word_lines(alloc, words)?;
+    hint.extend_from_slice(&lines)?;
+    Ok(hint)
+}
+
+// The words with which a front goes on, a line each, after a heading. `Err`: memory.
+fn next_lines(alloc: Global, front: &[u8]) -> Result<Vec<u8>, AllocError>
+    requires { IsOneLine front.now }
+    ensures { IfOk result (λ hint. ListsNext front.now hint.items) }
+{
+    let words = next_words(alloc, front)?;
+    let hint = listed(alloc, &words)?;
+    Ok(hint)
 }
 
 // How a catalog can be mended whose line fits a form.
@@ -148,7 +103,7 @@ fn mending(fault: CatalogFault) -> &'static str {
 }
 
 /// A catalog's fault in words: its line and column, that line with a mark below, and what could stand there, or how it can be mended. Of a line that fits no
-/// form the mark is below the first word with which no line of a form goes on. Each line ends with LF. `Err`: memory.
+/// form the mark is below the first word with which it goes on as none of the lines that are tried. Each line ends with LF. `Err`: memory.
 pub fn catalog_words(alloc: Global, text: &[u8], fault: CatalogFault) -> Result<Vec<u8>, AllocError>
     ensures { IfOk result (λ words. ExplainsCatalog text.now fault words.items) }
 {
@@ -159,7 +114,7 @@ pub fn catalog_words(alloc: Global, text: &[u8], fault: CatalogFault) -> Result<
         return Ok(words);
     };
     let line = first_line(&text[begin..]);
-    let at = misfit(alloc, line)?;
+    let at = misfit_place(alloc, line)?;
     let mut words = place_text(alloc, text, begin + at)?;
     let hint = next_lines(alloc, &line[..at])?;
     words.extend_from_slice(&hint)?;

@@ -2,7 +2,6 @@
 #![tactic(auto)]
 
 mod catalog;
-mod forms;
 mod hint;
 mod listing;
 mod view;

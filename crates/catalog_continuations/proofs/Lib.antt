@@ -1,0 +1,4 @@
+pub mod Adding
+pub mod GoingOn
+pub mod OneLine
+pub mod TriedLines

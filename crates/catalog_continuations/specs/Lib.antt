@@ -1,0 +1,5 @@
+pub mod Forms
+pub mod GoesOn
+pub mod Misfit
+pub mod Next
+pub mod Words
