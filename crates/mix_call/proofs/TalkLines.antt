@@ -22,7 +22,7 @@ use Rattle.mix_script.specs.declared.answer.Answer.{Answer}
 use Rattle.mix_script.specs.declared.step.Step.{Step}
 use Rattle.mix_lines.specs.Lines.{IsLazy, IsRun}
 use Rattle.mix_session.specs.Walks.{plan_course}
-use Rattle.mix_talk.specs.Ends.{EndsBy, IsWhole, StopsBetween, StopsWithin, TalkEnds, heard_by}
+use Rattle.mix_talk.specs.Ends.{HeardEndsBy, IsAllAnswered, StopsBetween, StopsWithin, HeardEnds, heard_by}
 use Rattle.mix_talk.specs.Heard.{Heard, no_form, step, steps_in}
 use Rattle.mix_talk.specs.Lines.{no_form_line, spoken, spoken_from}
 use Rattle.mix_talk.specs.declared.fault.TalkFault.{TalkFault}
@@ -152,7 +152,7 @@ module _ (old new : View) (a b : Reaching) (views : List (Option Plan)) (basis :
         (subst (Appends before.written after.written) (sym (take_append lines line w.count)) w.written)
 
     -- where all lines of a talk were written, the talk was done
-    whole : (marked : Bool) → IsWhole Are Cost names asked before after marked → IsDoneWith (Course asked before after) (outcome_status (outcome_of marked)) before after
+    whole : (marked : Bool) → IsAllAnswered Are Cost names asked before after marked → IsDoneWith (Course asked before after) (outcome_status (outcome_of marked)) before after
     whole marked w =
         let lines = spoken names asked w.answers in
         let less = run.frugal w.answers [] lines w.cost (asked, [], sym (append_nil asked), w.all, [], sym (append_nil lines)) w.written in
@@ -161,7 +161,7 @@ module _ (old new : View) (a b : Reaching) (views : List (Option Plan)) (basis :
         (lines, (f, (texts steps).document, ((texts steps).named, subst Is (outcome_is marked w.answers w.marks) (run.whole w.answers w.are less' w.all))), w.written)
 
     -- the lines of a talk came to their end, or were cut short
-    lines_end : (r : Result Bool TalkFault) → EndsBy Are Cost names asked input input' before after r → EndsSo (Course asked) input input' before after r
+    lines_end : (r : Result Bool TalkFault) → HeardEndsBy Are Cost names asked input input' before after r → EndsSo (Course asked) input input' before after r
     lines_end (Ok marked) e = (e.0, whole marked e.1)
     lines_end (Err InputFailed) e = (e.0, outcome_status (outcome_of e.1), whole e.1 e.2)
     lines_end (Err SinkFailed) e = (e.0, within e.1)
@@ -169,7 +169,7 @@ module _ (old new : View) (a b : Reaching) (views : List (Option Plan)) (basis :
     lines_end (Err OutOfMemory) (inr w) = within w
 
   -- a talk over sources ends as its lines do
-  pub talk_lines_end : (r : Result Bool TalkFault) → TalkEnds (plan_course st) old new names input input' before after r → TalkedAlong names Course input input' before after r
+  pub talk_lines_end : (r : Result Bool TalkFault) → HeardEnds (plan_course st) old new names input input' before after r → TalkedAlong names Course input input' before after r
   talk_lines_end r e = record { bytes = e.bytes; took = e.took; timely = e.timely; ends = lines_end (heard_by e.bytes r) r e.ends }
 
 -- where memory ran out before anything was taken of the input of a talk, nothing was written of its lines

@@ -5,7 +5,7 @@ use Rattle.mix_io.specs.Views.{FilesView, SinkView}
 use Rattle.mix_reach.specs.Reach.{Reaching}
 use Rattle.mix_reach.specs.Stores.{StoresView, stores_of}
 use Rattle.mix_talk.specs.Heard.{Heard, steps_in}
-use Rattle.mix_talk.specs.Ends.{TalkEnds as HeardEnds}
+use Rattle.mix_talk.specs.Ends.{HeardEnds}
 use Rattle.mix_talk.specs.declared.fault.TalkFault.TheVariants.{OutOfMemory}
 use Rattle.lxp_core.specs.View.{View}
 use Rattle.lazy_plan.specs.Bench.{ops_of}

@@ -21,7 +21,7 @@ use Rattle.mix_lines.specs.Written.{IsSoFar}
 use Rattle.mix_lines.specs.declared.fault.LinesFault.{LinesFault}
 use Rattle.mix_lines.specs.declared.fault.LinesFault.TheVariants as lines
 use Rattle.mix_lines.proofs.SoFar.{so_far_run, so_far_named, earlier, lazy_begun, next}
-use Rattle.mix_talk.specs.Ends.{IsTakenInTime, StopsBetween, StopsWithin, TalkEnds}
+use Rattle.mix_talk.specs.Ends.{IsTakenInTime, StopsBetween, StopsWithin, HeardEnds}
 use Rattle.mix_talk.specs.Faults.{of_lines}
 use Rattle.mix_talk.specs.Heard.{step, heard, steps_in}
 use Rattle.mix_talk.specs.Lines.{spoken}
@@ -64,7 +64,7 @@ module _ {V W : Type 0} (c : Course W) (m : Meaning V W) (old now : View) (value
       }
 
       -- where memory ran out before there was an answer, the talk ends
-      pub talking_short : TalkEnds c old v' names input mid sink between (Err OutOfMemory)
+      pub talking_short : HeardEnds c old v' names input mid sink between (Err OutOfMemory)
       talking_short = talk_ends c old v' names input mid sink between far.bytes far.took far.timely (Err OutOfMemory) (inl (before_line between refl))
 
       module _ (a : Answer) (is : IsStep m m' now.faults v'.faults values values' s.client s.act a) (given : NamesGiven m' values values' s.client s.act a) where
@@ -118,7 +118,7 @@ module _ {V W : Type 0} (c : Course W) (m : Meaning V W) (old now : View) (value
             }
 
         -- where a step's line was cut short, the talk ends
-        pub talking_cut : (sink' : SinkView) → sink.faults ≤ between.faults → (fault : LinesFault) → IsStepCut (λ x. x ≡ a) names s.client between sink' fault → TalkEnds c old v' names input mid sink sink' (Err (of_lines fault))
+        pub talking_cut : (sink' : SinkView) → sink.faults ≤ between.faults → (fault : LinesFault) → IsStepCut (λ x. x ≡ a) names s.client between sink' fault → HeardEnds c old v' names input mid sink sink' (Err (of_lines fault))
         talking_cut sink' rises lines.SinkFailed cut = talk_ends c old v' names input mid sink sink' far.bytes far.took (timely_cut names far.bytes sink.written between.written sink'.written (line_of names s.client cut.1.a) far.timely cut.1.written) (Err SinkFailed) (let h = cut.0 in omega (arith, h, rises), within_line sink' cut.1)
         talking_cut sink' rises lines.OutOfMemory (inl same) = talk_ends c old v' names input mid sink sink' far.bytes far.took (subst (λ (x : SinkView). IsTakenInTime names far.bytes sink.written x.written) (sym same) far.timely) (Err OutOfMemory) (inl (before_line sink' same))
         talking_cut sink' rises lines.OutOfMemory (inr w) = talk_ends c old v' names input mid sink sink' far.bytes far.took (timely_cut names far.bytes sink.written between.written sink'.written (line_of names s.client w.a) far.timely w.written) (Err OutOfMemory) (inr (within_line sink' w))

@@ -15,7 +15,7 @@ use Rattle.mix_session.specs.Meaning.{Course, Meaning}
 use Rattle.mix_session.specs.Stepped.{Stepped}
 use Rattle.mix_lines.specs.declared.fault.LinesFault.{LinesFault}
 use Rattle.mix_talk.specs.Answered.{IsReadAnswered, IsSaid}
-use Rattle.mix_talk.specs.Ends.{TalkEnds}
+use Rattle.mix_talk.specs.Ends.{HeardEnds}
 use Rattle.mix_talk.specs.Faults.{of_lines}
 use Rattle.mix_talk.specs.Heard as heard
 use Rattle.mix_talk.specs.Reading.{Reads}
@@ -45,7 +45,7 @@ module _ {V W : Type 0} (c : Course W) (m m' : Meaning V W) (old now v' : View) 
 
   -- where a step's line was cut short, or there was none, the talk ends
   step_cut : (s : step.Step) → Coming (heard.step s ∷ []) → (answered : Result Answer AllocError) → Stepped m m' now v' values values' s.client s.act answered → (fault : LinesFault) → IsSaid names s.client between sink' answered (Err fault)
-      → sink.faults ≤ between.faults → TalkEnds c old v' names input mid sink sink' (Err (of_lines fault))
+      → sink.faults ≤ between.faults → HeardEnds c old v' names input mid sink sink' (Err (of_lines fault))
   step_cut s far (Ok a) stepped fault said more = talking_cut c m old now values names input mid r sink between marked s far m' v' values' rises (Ok a) stepped a stepped.answer stepped.names sink' more fault said
   step_cut s far (Err e) stepped fault said more =
       rw (said.0, said.1) (talking_short c m old now values names input mid r sink between marked s far m' v' values' rises (Err e) stepped)
@@ -71,7 +71,7 @@ module _ {U P V X : Type 0} (s s' : U) (session session' : P) (view : U → View
 
   -- where the answer to a line that was read was cut short, the talk ends
   next_cut : (read : LineRead) → Next (next_asks (Some read)) → (fault : LinesFault) → IsReadAnswered s s' session session' view means values names read between sink' (Err fault)
-      → sink.faults ≤ between.faults → TalkEnds c old (view s') names input mid sink sink' (Err (of_lines fault))
+      → sink.faults ≤ between.faults → HeardEnds c old (view s') names input mid sink sink' (Err (of_lines fault))
   next_cut Passed far fault is more = absurd (let e = is.3 in cc)
   next_cut NoForm far fault is more =
       rw is.0 (talking_no_form_cut c (means s session) old (view s) (values session) names input mid r sink between marked sink' far more fault is.2)
@@ -92,5 +92,5 @@ module _ {U P V X : Type 0} (s s' : U) (session session' : P) (view : U → View
 
     -- where the answer to the line was cut short, the talk ends
     pub line_cut : (fault : LinesFault) → IsReadAnswered s s' session session' view means values names read between sink' (Err fault)
-        → sink.faults ≤ between.faults → TalkEnds c old (view s') names input mid sink sink' (Err (of_lines fault))
+        → sink.faults ≤ between.faults → HeardEnds c old (view s') names input mid sink sink' (Err (of_lines fault))
     line_cut fault is more = next_cut read comes fault is more

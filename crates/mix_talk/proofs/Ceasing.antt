@@ -13,7 +13,7 @@ use Rattle.mix_session.specs.Meaning.{Course, Meaning}
 use Rattle.mix_lines.specs.Lines.{IsRun, IsLazy}
 use Rattle.mix_lines.specs.Written.{IsSoFar}
 use Rattle.mix_lines.proofs.SoFar.{so_far_run, so_far_lazy}
-use Rattle.mix_talk.specs.Ends.{IsWhole, TalkEnds}
+use Rattle.mix_talk.specs.Ends.{IsAllAnswered, HeardEnds}
 use Rattle.mix_talk.specs.Faults.{of_take}
 use Rattle.mix_talk.specs.Heard.{Heard, heard, steps_in, whole_lines}
 use Rattle.mix_talk.specs.Reading.{Reads, TookSome}
@@ -26,7 +26,7 @@ use Rattle.mix_talk.proofs.Whole.{whole_of}
 module _ {V W : Type 0} (c : Course W) (m : Meaning V W) (old now : View) (values : NamesOf V) (names : List (List ℕ)) (input mid : InputView) (r : LineReader) (sink between : SinkView) (marked : Bool)
     (far : IsTalking c m old now values names input mid r sink.written between.written marked []) where
   -- all lines that were heard were answered
-  all_answered : IsWhole (IsRun c old.faults now.faults (steps_in far.done)) (IsLazy c old.fills now.fills (steps_in far.done)) names far.done sink between marked
+  all_answered : IsAllAnswered (IsRun c old.faults now.faults (steps_in far.done)) (IsLazy c old.fills now.fills (steps_in far.done)) names far.done sink between marked
   all_answered =
       let So : List Step → Type 0 = λ steps. IsSoFar c m old now values steps [] far.answers in
       let so : So (steps_in far.done) = subst So (append_nil (steps_in far.done)) (far.so []) in
@@ -40,14 +40,14 @@ module _ {V W : Type 0} (c : Course W) (m : Meaning V W) (old now : View) (value
       }
 
   -- all lines were answered where the lines that were heard are the same
-  answered_all : (heard : List Heard) → heard ≡ far.done → IsWhole (IsRun c old.faults now.faults (steps_in heard)) (IsLazy c old.fills now.fills (steps_in heard)) names heard sink between marked
+  answered_all : (heard : List Heard) → heard ≡ far.done → IsAllAnswered (IsRun c old.faults now.faults (steps_in heard)) (IsLazy c old.fills now.fills (steps_in heard)) names heard sink between marked
   answered_all heard same =
-      let Whole : List Heard → Type 0 = λ h. IsWhole (IsRun c old.faults now.faults (steps_in h)) (IsLazy c old.fills now.fills (steps_in h)) names h sink between marked in
+      let Whole : List Heard → Type 0 = λ h. IsAllAnswered (IsRun c old.faults now.faults (steps_in h)) (IsLazy c old.fills now.fills (steps_in h)) names h sink between marked in
       subst Whole (sym same) all_answered
 
   -- where the next line couldn't be read, the talk ends
   pub talking_failed : (new : InputView) (fault : TakeFault) → TookSome mid new r fault → input.faults ≤ mid.faults
-      → (fault ≡ take.Failed → HasRisen mid.faults new.faults) → TalkEnds c old now names input new sink between (Err (of_take fault))
+      → (fault ≡ take.Failed → HasRisen mid.faults new.faults) → HeardEnds c old now names input new sink between (Err (of_take fault))
   talking_failed new take.Failed took rises cause =
       let bytes = far.bytes ++ took.bytes in
       let parts : bytes ≡ far.passed ++ (r.page ++ took.bytes) = ap (λ b. b ++ took.bytes) far.cut ∙ append_assoc far.passed r.page took.bytes in
@@ -68,7 +68,7 @@ module _ {V W : Type 0} (c : Course W) (m : Meaning V W) (old now : View) (value
       (inl (stops c m old now values names input mid r sink between marked [] far bytes later parts))
 
   -- where there is no next line, the talk ends
-  pub talking_done : (new : InputView) (r' : LineReader) → Reads mid new r r' None → TalkEnds c old now names input new sink between (Ok marked)
+  pub talking_done : (new : InputView) (r' : LineReader) → Reads mid new r r' None → HeardEnds c old now names input new sink between (Ok marked)
   talking_done new r' reads =
       let read = talking_read c m old now values names input mid r sink between marked new r' None far reads in
       let at_end = reads.reader (reads.last refl) in

@@ -15,7 +15,7 @@ use Rattle.mix_session.specs.Held.{IsSession}
 use Rattle.mix_lines.specs.Lines.{IsRun, IsLazy}
 use Rattle.mix_lines.specs.Written.{IsSoFar}
 use Rattle.mix_lines.proofs.SoFar.{so_far_start, so_far_run, so_far_lazy}
-use Rattle.mix_talk.specs.Ends.{StopsBetween, EndsBy, IsTakenInTime, TalkEnds, heard_by}
+use Rattle.mix_talk.specs.Ends.{StopsBetween, HeardEndsBy, IsTakenInTime, HeardEnds, heard_by}
 use Rattle.mix_talk.specs.Heard.{Heard, heard, next_asks, steps_in, whole_lines}
 use Rattle.mix_talk.specs.Lines.{spoken}
 use Rattle.mix_talk.specs.Reading.{ArePieces, EndsInLf, IsReaderOf, Reads}
@@ -95,8 +95,8 @@ talking_start m v values names input r before session none page goes = record {
 -- over a document that is told a talk ends as its lines tell
 pub talk_ends : {W : Type 0} (c : Course W) (old new : View) (names : List (List ℕ)) (input input' : InputView) (sink sink' : SinkView) (bytes : List ℕ) → Took input input' bytes
     → IsTakenInTime names bytes sink.written sink'.written → (r : Result Bool TalkFault)
-    → EndsBy (IsRun c old.faults new.faults (steps_in (heard_by bytes r))) (IsLazy c old.fills new.fills (steps_in (heard_by bytes r))) names (heard_by bytes r) input input' sink sink' r
-    → TalkEnds c old new names input input' sink sink' r
+    → HeardEndsBy (IsRun c old.faults new.faults (steps_in (heard_by bytes r))) (IsLazy c old.fills new.fills (steps_in (heard_by bytes r))) names (heard_by bytes r) input input' sink sink' r
+    → HeardEnds c old new names input input' sink sink' r
 talk_ends c old new names input input' sink sink' bytes took timely r ends = record {
   bytes = bytes;
   took = took;
@@ -109,7 +109,7 @@ talk_ends c old new names input input' sink sink' bytes took timely r ends = rec
 }
 
 -- where memory ran out before a talk began, the talk ends
-pub talk_unbegun : {V W : Type 0} (m : Meaning V W) (v : View) (names : List (List ℕ)) (input : InputView) (sink : SinkView) → TalkEnds m.course v v names input input sink sink (Err OutOfMemory)
+pub talk_unbegun : {V W : Type 0} (m : Meaning V W) (v : View) (names : List (List ℕ)) (input : InputView) (sink : SinkView) → HeardEnds m.course v v names input input sink sink (Err OutOfMemory)
 talk_unbegun m v names input sink =
     let so = so_far_start m v no_names [] refl in
     talk_ends m.course v v names input input sink sink [] (took_none input) (timely_start names sink.written) (Err OutOfMemory) (inl record {

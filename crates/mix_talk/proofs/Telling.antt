@@ -13,10 +13,10 @@ use Rattle.mix_script.specs.declared.step.Step.{Step}
 use Rattle.mix_script.specs.declared.answer.Answer.{Answer}
 use Rattle.mix_script.proofs.Finished.{answers_show_notes, first_answers_show_notes}
 use Rattle.mix_script.proofs.FirstSteps.{first_of}
-use Rattle.mix_talk.specs.Ends.{IsWhole, StopsBetween, StopsWithin, EndsBy}
+use Rattle.mix_talk.specs.Ends.{IsAllAnswered, StopsBetween, StopsWithin, HeardEndsBy}
 use Rattle.mix_talk.specs.Heard.{Heard, step, no_form, steps_in}
 use Rattle.mix_talk.specs.Lines.{no_form_line, spoken, spoken_from, talk_transcript}
-use Rattle.mix_talk.specs.Told.{AreLinesOn, AreFirstLinesOn, EndsOn}
+use Rattle.mix_talk.specs.Told.{AreHeardLinesOn, AreFirstHeardLinesOn, HeardEndsOn}
 use Rattle.mix_talk.specs.declared.fault.TalkFault.{TalkFault}
 use Rattle.mix_talk.specs.declared.fault.TalkFault.TheVariants.{InputFailed, SinkFailed, OutOfMemory}
 
@@ -96,7 +96,7 @@ module _ (Are Cost : List Answer → Type 0) (NamesAt : Naming) (f : Finished) (
     first_answers = subst (λ steps. AreOf NamesAt f no_names answers steps) first_heard (first_of NamesAt f no_names answers (steps_in heard) (of answers are))
 
     -- the lines of answers that are the document's are the first lines on the document
-    first_on : AreFirstLinesOn roots NamesAt f names heard (talk_transcript f names (notes_of answers) done)
+    first_on : AreFirstHeardLinesOn roots NamesAt f names heard (talk_transcript f names (notes_of answers) done)
     first_on = record {
       first = done;
       later = later;
@@ -117,7 +117,7 @@ module _ (Are Cost : List Answer → Type 0) (NamesAt : Naming) (f : Finished) (
 
     -- where a prefix of the lines of what was heard first was written, a prefix of the document's lines was
     prefix_on : (count : ℕ) → Appends before.written after.written (take count (spoken names done answers))
-        → (lines : List ℕ) × AreFirstLinesOn roots NamesAt f names heard lines × AppendsPrefix before.written after.written lines
+        → (lines : List ℕ) × AreFirstHeardLinesOn roots NamesAt f names heard lines × AppendsPrefix before.written after.written lines
     prefix_on count written = (
       talk_transcript f names (notes_of answers) done,
       first_on,
@@ -126,7 +126,7 @@ module _ (Are Cost : List Answer → Type 0) (NamesAt : Naming) (f : Finished) (
 
   -- a prefix of the first lines of a document was written
   abbrev PrefixOn : Type 0
-  PrefixOn = (lines : List ℕ) × AreFirstLinesOn roots NamesAt f names heard lines × AppendsPrefix before.written after.written lines
+  PrefixOn = (lines : List ℕ) × AreFirstHeardLinesOn roots NamesAt f names heard lines × AppendsPrefix before.written after.written lines
 
   -- where the lines of what was heard first were written, a prefix of the document's lines was
   between : StopsBetween Are Cost names heard before after → PrefixOn
@@ -150,7 +150,7 @@ module _ (Are Cost : List Answer → Type 0) (NamesAt : Naming) (f : Finished) (
       two done next answers last h k = length-append answers last ∙ ap (λ n. n + length last) h ∙ ap (λ n. length (steps_in done) + n) k ∙ sym (ap (λ (xs : List Step). length xs) (steps_append done (next ∷ [])) ∙ length-append (steps_in done) (steps_in (next ∷ [])))
 
   -- where the lines of all that was heard were written, the document's lines were
-  whole : (marked : Bool) → IsWhole Are Cost names heard before after marked → (lines : List ℕ) × AreLinesOn roots NamesAt f names heard lines × Appends before.written after.written lines
+  whole : (marked : Bool) → IsAllAnswered Are Cost names heard before after marked → (lines : List ℕ) × AreHeardLinesOn roots NamesAt f names heard lines × Appends before.written after.written lines
   whole marked w =
       let begin = spoken_on NamesAt f names no_names heard w.answers (of w.answers w.are) in
       let lines : spoken names heard w.answers ≡ talk_transcript f names (notes_of w.answers) heard =
@@ -161,7 +161,7 @@ module _ (Are Cost : List Answer → Type 0) (NamesAt : Naming) (f : Finished) (
       )
 
   -- a talk over a document that is told ends on the document's lines
-  pub ends_on : (r : Result Bool TalkFault) → EndsBy Are Cost names heard input input' before after r → EndsOn roots NamesAt f names heard before.written after.written r
+  pub ends_on : (r : Result Bool TalkFault) → HeardEndsBy Are Cost names heard input input' before after r → HeardEndsOn roots NamesAt f names heard before.written after.written r
   ends_on (Ok marked) e = whole marked e.1
   ends_on (Err InputFailed) e = whole e.1 e.2
   ends_on (Err SinkFailed) e = within e.1

@@ -15,7 +15,7 @@ use Rattle.mix_lines.specs.Written.{IsSoFar}
 use Rattle.mix_lines.specs.declared.fault.LinesFault.{LinesFault}
 use Rattle.mix_lines.specs.declared.fault.LinesFault.TheVariants as lines
 use Rattle.mix_lines.proofs.SoFar.{so_far_run, so_far_lazy}
-use Rattle.mix_talk.specs.Ends.{StopsWithin, TalkEnds}
+use Rattle.mix_talk.specs.Ends.{StopsWithin, HeardEnds}
 use Rattle.mix_talk.specs.Faults.{of_lines, IsNoFormCut}
 use Rattle.mix_talk.specs.Heard.{no_form, heard, steps_in}
 use Rattle.mix_talk.specs.Lines.{no_form_line, spoken}
@@ -53,7 +53,7 @@ module _ {V W : Type 0} (c : Course W) (m : Meaning V W) (old now : View) (value
 
   -- where the line that says that a line has no form was cut short, the talk ends
   pub talking_no_form_cut : (sink' : SinkView) → IsTalking c m old now values names input mid r sink.written between.written marked (no_form ∷ []) → sink.faults ≤ between.faults
-      → (fault : LinesFault) → IsNoFormCut between sink' fault → TalkEnds c old now names input mid sink sink' (Err (of_lines fault))
+      → (fault : LinesFault) → IsNoFormCut between sink' fault → HeardEnds c old now names input mid sink sink' (Err (of_lines fault))
   talking_no_form_cut sink' far rises fault cut = by_fault fault cut
     where
       within : AppendsPrefix between.written sink'.written no_form_line
@@ -80,6 +80,6 @@ module _ {V W : Type 0} (c : Course W) (m : Meaning V W) (old now : View) (value
           here : IsSoFar c m old now values (steps_in (heard far.bytes)) (steps_in (heard r.page)) far.answers
           here = subst (λ steps. IsSoFar c m old now values steps (steps_in (heard r.page)) far.answers) (sym (all_steps c m old now values names input mid r sink between marked (no_form ∷ []) far)) (far.so (steps_in (heard r.page)))
 
-      by_fault : (fault : LinesFault) → IsNoFormCut between sink' fault → TalkEnds c old now names input mid sink sink' (Err (of_lines fault))
+      by_fault : (fault : LinesFault) → IsNoFormCut between sink' fault → HeardEnds c old now names input mid sink sink' (Err (of_lines fault))
       by_fault lines.SinkFailed cut = talk_ends c old now names input mid sink sink' far.bytes far.took (timely_cut names far.bytes sink.written between.written sink'.written no_form_line far.timely cut.1) (Err SinkFailed) (let h = cut.0 in omega (arith, h, rises), within cut.1)
       by_fault lines.OutOfMemory cut = talk_ends c old now names input mid sink sink' far.bytes far.took (timely_cut names far.bytes sink.written between.written sink'.written no_form_line far.timely cut) (Err OutOfMemory) (inr (within cut))

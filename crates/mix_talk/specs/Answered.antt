@@ -25,7 +25,7 @@ IsSaid names client before after (Err e) (Ok marked) = ⊥
 IsSaid names client before after (Err e) (Err fault) = (fault ≡ OutOfMemory) × (after ≡ before)
 
 -- a step was answered, and its line written
-pub record IsAnswered {V W : Type 0} (m m' : Meaning V W) (v v' : View) (values values' : NamesOf V) (names : List (List ℕ)) (s : step.Step) (before after : SinkView) (r : Result Bool LinesFault) : Type 0 where
+pub record IsStepAnswered {V W : Type 0} (m m' : Meaning V W) (v v' : View) (values values' : NamesOf V) (names : List (List ℕ)) (s : step.Step) (before after : SinkView) (r : Result Bool LinesFault) : Type 0 where
   pub answer : Result Answer AllocError
   pub stepped : Stepped m m' v v' values values' s.client s.act answer
   pub said : IsSaid names s.client before after answer r
@@ -41,4 +41,4 @@ abbrev pub IsReadAnswered : {U P V X : Type 0} → U → U → P → P → (U �
 IsReadAnswered s s' session session' view means values names Passed before after r = (s' ≡ s) × (session' ≡ session) × (after ≡ before) × (r ≡ Ok false)
 IsReadAnswered s s' session session' view means values names NoForm before after r = (s' ≡ s) × (session' ≡ session) × SaidNoForm before after r
 IsReadAnswered s s' session session' view means values names (Step step) before after r =
-    IsAnswered (means s session) (means s' session') (view s) (view s') (values session) (values session') names step before after r
+    IsStepAnswered (means s session) (means s' session') (view s) (view s') (values session) (values session') names step before after r

@@ -12,13 +12,13 @@ use Rattle.mix_session.specs.Meaning.{Course}
 use Rattle.mix_lines.specs.Lines.{IsRun, IsLazy}
 use Rattle.mix_talk.specs.Heard.{Heard, heard, steps_in, whole_lines}
 use Rattle.mix_talk.specs.Lines.{spoken}
-use Rattle.mix_talk.specs.Told.{EndsOn}
+use Rattle.mix_talk.specs.Told.{HeardEndsOn}
 use Rattle.mix_talk.specs.declared.fault.TalkFault.{TalkFault}
 use Rattle.mix_talk.specs.declared.fault.TalkFault.TheVariants.{InputFailed, SinkFailed, OutOfMemory}
 
 -- all that was heard was answered, and its lines were written; a fault line was written where this is marked. The first says what the
 -- answers are, the second what they and one step more may have cost
-pub record IsWhole (Are Cost : List Answer → Type 0) (names : List (List ℕ)) (heard : List Heard) (before after : SinkView) (marked : Bool) : Type 0 where
+pub record IsAllAnswered (Are Cost : List Answer → Type 0) (names : List (List ℕ)) (heard : List Heard) (before after : SinkView) (marked : Bool) : Type 0 where
   pub answers : List Answer
   pub are : Are answers
   pub all : length answers ≡ length (steps_in heard)
@@ -62,11 +62,11 @@ heard_by bytes (Err OutOfMemory) = heard bytes
 
 -- how a talk ends that has heard so much: all of it was answered, and the input is at its end or failed; or the sink failed in a line; or
 -- memory ran out, between two lines or in one
-abbrev pub EndsBy : (List Answer → Type 0) → (List Answer → Type 0) → List (List ℕ) → List Heard → InputView → InputView → SinkView → SinkView → Result Bool TalkFault → Type 0
-EndsBy Are Cost names heard input input' before after (Ok marked) = IsAtEnd input' × IsWhole Are Cost names heard before after marked
-EndsBy Are Cost names heard input input' before after (Err InputFailed) = HasRisen input.faults input'.faults × (marked : Bool) × IsWhole Are Cost names heard before after marked
-EndsBy Are Cost names heard input input' before after (Err SinkFailed) = HasRisen before.faults after.faults × StopsWithin Are Cost names heard before after
-EndsBy Are Cost names heard input input' before after (Err OutOfMemory) = StopsBetween Are Cost names heard before after ⊎ StopsWithin Are Cost names heard before after
+abbrev pub HeardEndsBy : (List Answer → Type 0) → (List Answer → Type 0) → List (List ℕ) → List Heard → InputView → InputView → SinkView → SinkView → Result Bool TalkFault → Type 0
+HeardEndsBy Are Cost names heard input input' before after (Ok marked) = IsAtEnd input' × IsAllAnswered Are Cost names heard before after marked
+HeardEndsBy Are Cost names heard input input' before after (Err InputFailed) = HasRisen input.faults input'.faults × (marked : Bool) × IsAllAnswered Are Cost names heard before after marked
+HeardEndsBy Are Cost names heard input input' before after (Err SinkFailed) = HasRisen before.faults after.faults × StopsWithin Are Cost names heard before after
+HeardEndsBy Are Cost names heard input input' before after (Err OutOfMemory) = StopsBetween Are Cost names heard before after ⊎ StopsWithin Are Cost names heard before after
 
 -- bytes were taken in time: but for the last of them, at most 4,096, the lines that answer all their whole lines were written
 pub record IsTakenInTime (names : List (List ℕ)) (bytes : List ℕ) (before after : Option (List ℕ)) : Type 0 where
@@ -81,10 +81,10 @@ pub record IsTakenInTime (names : List (List ℕ)) (bytes : List ℕ) (before af
 
 -- how a talk on a course ends, over sources that meant the first view before and mean the second after: bytes were taken in time, and the
 -- talk ends so that has heard what they ask for
-pub record TalkEnds {W : Type 0} (c : Course W) (old new : View) (names : List (List ℕ)) (input input' : InputView) (before after : SinkView) (r : Result Bool TalkFault) : Type 0 where
+pub record HeardEnds {W : Type 0} (c : Course W) (old new : View) (names : List (List ℕ)) (input input' : InputView) (before after : SinkView) (r : Result Bool TalkFault) : Type 0 where
   pub bytes : List ℕ
   pub took : Took input input' bytes
   pub timely : IsTakenInTime names bytes before.written after.written
   pub ends : let steps = steps_in (heard_by bytes r) in
-      EndsBy (IsRun c old.faults new.faults steps) (IsLazy c old.fills new.fills steps) names (heard_by bytes r) input input' before after r
-  pub told : (f : Finished) → c.IsDocument f.tree → IsRight c.NamesAt f (steps_in (heard_by bytes r)) → EndsOn c.roots c.NamesAt f names (heard_by bytes r) before.written after.written r
+      HeardEndsBy (IsRun c old.faults new.faults steps) (IsLazy c old.fills new.fills steps) names (heard_by bytes r) input input' before after r
+  pub told : (f : Finished) → c.IsDocument f.tree → IsRight c.NamesAt f (steps_in (heard_by bytes r)) → HeardEndsOn c.roots c.NamesAt f names (heard_by bytes r) before.written after.written r

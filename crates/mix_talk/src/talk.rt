@@ -9,7 +9,7 @@ ghost use Rattle.mix_session.specs.Held.{IsSession};
 ghost use Rattle.mix_session.specs.Meaning.{Course, Meaning};
 ghost use Rattle.mix_session.specs.Walks.{plan_course};
 ghost use Rattle.mix_talk.specs.Answered.{IsReadAnswered};
-ghost use Rattle.mix_talk.specs.Ends.{TalkEnds};
+ghost use Rattle.mix_talk.specs.Ends.{HeardEnds};
 
 use crate::TalkFault;
 use crate::reader::LineReader;
@@ -71,7 +71,7 @@ fn talk<W: Walker + Drop, S: Sources, I: Input, K: Sink>(
     requires lets { let c = (W.means (S.view s.old) walker).course in c.Tells × c.Follows }
     ensures came { S.came_from s.old s.new }
     ensures ends { let c = (W.means (S.view s.old) walker).course in
-        TalkEnds c (S.view s.old) (S.view s.new) names.now (I.view streams.old.input) (I.view streams.new.input)
+        HeardEnds c (S.view s.old) (S.view s.new) names.now (I.view streams.old.input) (I.view streams.new.input)
         (K.view streams.old.out) (K.view streams.new.out) result }
     ensures input { (I.view streams.old.input).faults ≤ (I.view streams.new.input).faults }
     ensures count { (K.view streams.old.out).faults ≤ (K.view streams.new.out).faults }
@@ -108,7 +108,7 @@ pub fn talk_lines<S: Sources, I: Input, K: Sink>(
     requires lets { let c = plan_course (mediator.state_of (S.view s.old) m) in c.Tells × c.Follows }
     ensures came { S.came_from s.old s.new }
     ensures ends { let c = plan_course (mediator.state_of (S.view s.old) m) in
-        TalkEnds c (S.view s.old) (S.view s.new) names.now (I.view streams.old.input) (I.view streams.new.input)
+        HeardEnds c (S.view s.old) (S.view s.new) names.now (I.view streams.old.input) (I.view streams.new.input)
         (K.view streams.old.out) (K.view streams.new.out) result }
     ensures input { (I.view streams.old.input).faults ≤ (I.view streams.new.input).faults }
     ensures count { (K.view streams.old.out).faults ≤ (K.view streams.new.out).faults }

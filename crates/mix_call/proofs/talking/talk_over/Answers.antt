@@ -6,7 +6,7 @@ use Rattle.lazy_value.specs.Named.{state_of}
 use Rattle.plan_core.specs.Plans.{Operator}
 use Rattle.plan_evidence.specs.Held.{UsesHeld}
 use Rattle.mix_session.specs.Walks.{plan_course}
-use Rattle.mix_talk.specs.Ends.{TalkEnds}
+use Rattle.mix_talk.specs.Ends.{HeardEnds}
 use Rattle.mix_call.proofs.talking.talk_over.Goals as goal
 
 pub returns-clause-end : goal.returns-clause-end
@@ -17,7 +17,7 @@ returns-clause-end g c =
     inl (record {
       mediator = m;
       ops_are = ap (λ (q : Plan). (plan_value q).ops) c.in_ok-mediator.ensures.plan;
-      ends = subst (λ n. TalkEnds (plan_course (state_of old m)) old new n (g.I.Input.view c.args.streams.now.input) (g.I.Input.view c.talk_lines.new.streams.input) (g.K.Sink.view c.args.streams.now.out)
+      ends = subst (λ n. HeardEnds (plan_course (state_of old m)) old new n (g.I.Input.view c.args.streams.now.input) (g.I.Input.view c.talk_lines.new.streams.input) (g.K.Sink.view c.args.streams.now.out)
           (g.K.Sink.view c.talk_lines.new.streams.out) c.talk_lines.result) (c.deref.ensures.value ∙ c.in_ok-names.ensures) c.talk_lines.ensures.ends;
     })
 

@@ -1,7 +1,7 @@
 use Rattle.std.proofs.Common.{[], Ok, Err, refl, ap, arith, subst, sym}
 use Rattle.std.proofs.lemmas.Result.{err_from_is_err_and}
 use Rattle.mix_script.specs.Names.{held}
-use Rattle.mix_talk.specs.Ends.{TalkEnds}
+use Rattle.mix_talk.specs.Ends.{HeardEnds}
 use Rattle.mix_talk.specs.Faults.{of_lines, of_take}
 use Rattle.mix_talk.specs.Reading.{Reads}
 use Rattle.mix_talk.proofs.Answering.{line_told, line_cut}
@@ -53,7 +53,7 @@ returns-in_err-read-clause-ends g c =
     let p = err_from_is_err_and c.from_residual-in_err-read.result c.from_residual-in_err-read.ensures.1 in
     let fault = c.in_err-read.field-0.0 in
     rw (p.1, p.2)
-    (subst (λ w. TalkEnds (means old w).course old now c.args.names.now (input c.args.streams.now.input) (input c.next.new.input) (sink c.args.streams.now.out) (sink c.lines.streams.out) (Err (of_take fault)))
+    (subst (λ w. HeardEnds (means old w).course old now c.args.names.now (input c.args.streams.now.input) (input c.next.new.input) (sink c.args.streams.now.out) (sink c.lines.streams.out) (Err (of_take fault)))
     c.open-session.ensures.walker
     (talking_failed (means old c.open-session.result.walker).course (means now c.lines.session.walker) old now (held c.lines.session.names) c.args.names.now (input c.args.streams.now.input) (input c.lines.streams.input)
     c.lines.reader (sink c.args.streams.now.out) (sink c.lines.streams.out) c.lines.marked c.lines.invariant.far (input c.next.new.input) fault c.in_err-read.ensures.err c.lines.invariant.inputs
@@ -97,7 +97,7 @@ returns-in_err-fault-clause-ends g c =
     let reads = subst (Reads (input c.lines.streams.input) (input c.next.new.input) c.lines.reader c.next.new.self) c.in-Some.is c.in_ok-read.ensures.reads in
     let keeps = g.met.S.Sources.keeps _ _ c.answer_read-answered.ensures.came in
     rw (p.1, p.2)
-    (subst (λ w. TalkEnds (means old w).course old then c.args.names.now (input c.args.streams.now.input) (input c.next.new.input) (sink c.args.streams.now.out) (sink c.answer_read-answered.new.out) (Err (of_lines fault)))
+    (subst (λ w. HeardEnds (means old w).course old then c.args.names.now (input c.args.streams.now.input) (input c.next.new.input) (sink c.args.streams.now.out) (sink c.answer_read-answered.new.out) (Err (of_lines fault)))
     c.open-session.ensures.walker
     (line_cut c.lines.s c.answer_read-answered.new.s c.lines.session c.answer_read-answered.new.session view (λ s session. means (view s) session.walker) (λ session. held session.names) course old c.args.names.now
     (input c.args.streams.now.input) (input c.next.new.input) c.next.new.self (sink c.args.streams.now.out) (sink c.lines.streams.out) (sink c.answer_read-answered.new.out) c.lines.marked keeps.faults
@@ -145,7 +145,7 @@ returns-clause-ends g c =
     let old = view c.args.s.now in
     let now = view c.lines.s in
     let reads = subst (Reads (input c.lines.streams.input) (input c.next.new.input) c.lines.reader c.next.new.self) c.in_default.is c.in_ok-read.ensures.reads in
-    subst (λ w. TalkEnds (means old w).course old now c.args.names.now (input c.args.streams.now.input) (input c.next.new.input) (sink c.args.streams.now.out) (sink c.lines.streams.out) (Ok c.lines.marked))
+    subst (λ w. HeardEnds (means old w).course old now c.args.names.now (input c.args.streams.now.input) (input c.next.new.input) (sink c.args.streams.now.out) (sink c.lines.streams.out) (Ok c.lines.marked))
     c.open-session.ensures.walker
     (talking_done (means old c.open-session.result.walker).course (means now c.lines.session.walker) old now (held c.lines.session.names) c.args.names.now (input c.args.streams.now.input) (input c.lines.streams.input)
     c.lines.reader (sink c.args.streams.now.out) (sink c.lines.streams.out) c.lines.marked c.lines.invariant.far (input c.next.new.input) c.next.new.self reads)
