@@ -24,13 +24,9 @@ pub trait Fars {
         hole: HoleId,
     ) -> Result<Vec<OpenTree>, SourceFault>
         ensures keeps { KeepsFars (view self.old) (view self.new) }
-        ensures answers {
-            let before = far_document (view self.old) far.now in let after = far_document (view self.new) far.now in
-            IfOk result (λ list. Answers before after hole (plain list.items))
-        }
-        ensures refused {
-            IsRefused _ (far_document (view self.old) far.now) (far_document (view self.new) far.now) hole result
-        };
+        ensures answers { let before = far_document (view self.old) far.now in let after = far_document (view self.new) far.now in
+            IfOk result (λ list. Answers before after hole (plain list.items)) }
+        ensures refused { IsRefused _ (far_document (view self.old) far.now) (far_document (view self.new) far.now) hole result };
 
     /// The weight of a hole of a far source; `None` exactly where the source doesn't know the hole.
     fn weight(&self, far: &FarSource, hole: HoleId) -> Option<u128>

@@ -76,16 +76,12 @@ impl Fars for MemFars {
         hole: HoleId,
     ) -> Result<Vec<OpenTree>, SourceFault>
         ensures keeps { KeepsFars (mem_fars_view self.old) (mem_fars_view self.new) }
-        ensures answers {
-            let before = far_document (mem_fars_view self.old) far.now in
+        ensures answers { let before = far_document (mem_fars_view self.old) far.now in
             let after = far_document (mem_fars_view self.new) far.now in
-            IfOk result (λ list. Answers before after hole (plain list.items))
-        }
-        ensures refused {
-            let before = far_document (mem_fars_view self.old) far.now in
+            IfOk result (λ list. Answers before after hole (plain list.items)) }
+        ensures refused { let before = far_document (mem_fars_view self.old) far.now in
             let after = far_document (mem_fars_view self.new) far.now in
-            IsRefused _ before after hole result
-        }
+            IsRefused _ before after hole result }
         ensures whole { IfOk result (λ list. plain list.items ≡ without_holes (document (mem_fars_view self.old) far.now)) }
         // Which fills fail, and that no others count as faults.
         ensures named { IsErrOf result SourceFault.Failed → fails_next self.old far.now ≡ true }

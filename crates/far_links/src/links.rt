@@ -69,16 +69,12 @@ impl<L: Link + Drop, D: Dial<L>> Fars for FarLinks<L, D> {
         hole: HoleId,
     ) -> Result<Vec<OpenTree>, SourceFault>
         ensures keeps { KeepsFars (links_view L.view self.old) (links_view L.view self.new) }
-        ensures answers {
-            let before = far_document (links_view L.view self.old) far.now in
+        ensures answers { let before = far_document (links_view L.view self.old) far.now in
             let after = far_document (links_view L.view self.new) far.now in
-            IfOk result (λ list. Answers before after hole (plain list.items))
-        }
-        ensures refused {
-            let before = far_document (links_view L.view self.old) far.now in
+            IfOk result (λ list. Answers before after hole (plain list.items)) }
+        ensures refused { let before = far_document (links_view L.view self.old) far.now in
             let after = far_document (links_view L.view self.new) far.now in
-            IsRefused _ before after hole result
-        }
+            IsRefused _ before after hole result }
         ensures named { let old = standing_of L.view self.old far.now in let new = standing_of L.view self.new far.now in
             IsErrOf result SourceFault.Failed
             → (cause : Cause) × (last_of self.new far.now ≡ Some cause) × HasFailed old new far.now.number hole cause }

@@ -98,16 +98,12 @@ impl<L: Link> Sources for Remote<L> {
             (remoting (L.view self.new.link) self.new.peers.items self.new.fills) }
         ensures filled { IsFilled (L.view self.old.link) (L.view self.new.link)
             (slice_get self.old.peers.items s) (slice_get self.new.peers.items s) s hole result }
-        ensures answers {
-            let old = view_of (remoting (L.view self.old.link) self.old.peers.items self.old.fills) in
+        ensures answers { let old = view_of (remoting (L.view self.old.link) self.old.peers.items self.old.fills) in
             let new = view_of (remoting (L.view self.new.link) self.new.peers.items self.new.fills) in
-            IfOk result (λ list. Answers (source_of old s) (source_of new s) hole (plain list.items))
-        }
-        ensures refused {
-            let old = view_of (remoting (L.view self.old.link) self.old.peers.items self.old.fills) in
+            IfOk result (λ list. Answers (source_of old s) (source_of new s) hole (plain list.items)) }
+        ensures refused { let old = view_of (remoting (L.view self.old.link) self.old.peers.items self.old.fills) in
             let new = view_of (remoting (L.view self.new.link) self.new.peers.items self.new.fills) in
-            IsRefused _ (source_of old s) (source_of new s) hole result
-        }
+            IsRefused _ (source_of old s) (source_of new s) hole result }
         ensures counted { IsCounted _ self.old.fills self.new.fills result }
         // Why the source failed, and that no other was filled.
         ensures named { let old = remoting (L.view self.old.link) self.old.peers.items self.old.fills in

@@ -58,16 +58,12 @@ pub(crate) fn fill_view<S: Sources>(
     ensures moved { Moved S.view S.came_from layers.old layers.new }
     ensures unasked { NeedsNone layers.old.views.items view hole → layers.new.base ≡ layers.old.base }
     ensures step { IfOk result (λ list. IsOneStep hole (plain list.items)) }
-    ensures answers {
-        let before = source_of (views_of (stacking_in S.view layers.old)) view in
+    ensures answers { let before = source_of (views_of (stacking_in S.view layers.old)) view in
         let after = source_of (views_of (stacking_in S.view layers.new)) view in
-        IfOk result (λ list. Answers before after hole (plain list.items))
-    }
-    ensures refused {
-        let before = source_of (views_of (stacking_in S.view layers.old)) view in
+        IfOk result (λ list. Answers before after hole (plain list.items)) }
+    ensures refused { let before = source_of (views_of (stacking_in S.view layers.old)) view in
         let after = source_of (views_of (stacking_in S.view layers.new)) view in
-        IsRefusedAtOnce _ before after hole result
-    }
+        IsRefusedAtOnce _ before after hole result }
 {
     views_are_kept();
     let Some(part) = known_part(&layers.served, view, hole) else {
@@ -97,10 +93,8 @@ fn fill_base<S: Sources>(
     requires source { s < (S.view layers.old.base).count }
     requires sound { AreSound S.view layers.old }
     ensures moved { Moved S.view S.came_from layers.old layers.new }
-    ensures answers {
-        let before = source_of (S.view layers.old.base) s in let after = source_of (S.view layers.new.base) s in
-        IfOk result (λ list. Answers before after hole (plain list.items))
-    }
+    ensures answers { let before = source_of (S.view layers.old.base) s in let after = source_of (S.view layers.new.base) s in
+        IfOk result (λ list. Answers before after hole (plain list.items)) }
     ensures refused { IsRefused _ (source_of (S.view layers.old.base) s) (source_of (S.view layers.new.base) s) hole result }
 {
     views_are_kept();
@@ -121,16 +115,12 @@ pub(crate) fn fill<S: Sources>(
     ensures unasked { let count = (S.view layers.old.base).count in
         count ≤ s → NeedsNone layers.old.views.items (s - count) hole → layers.new.base ≡ layers.old.base }
     ensures step { (S.view layers.old.base).count ≤ s → IfOk result (λ list. IsOneStep hole (plain list.items)) }
-    ensures answers {
-        let before = source_of (view_of (stacking_in S.view layers.old)) s in
+    ensures answers { let before = source_of (view_of (stacking_in S.view layers.old)) s in
         let after = source_of (view_of (stacking_in S.view layers.new)) s in
-        IfOk result (λ list. Answers before after hole (plain list.items))
-    }
-    ensures refused {
-        let before = source_of (view_of (stacking_in S.view layers.old)) s in
+        IfOk result (λ list. Answers before after hole (plain list.items)) }
+    ensures refused { let before = source_of (view_of (stacking_in S.view layers.old)) s in
         let after = source_of (view_of (stacking_in S.view layers.new)) s in
-        IsRefused _ before after hole result
-    }
+        IsRefused _ before after hole result }
     ensures fills { layers.new.fills ≡ min (layers.old.fills + 1) (2 ^ 64 - 1) }
 {
     views_are_kept();

@@ -96,16 +96,12 @@ impl<S: Sources> Sources for Stack<S> {
         requires { s < (view_of (stacking_in S.view self.old.layers)).count }
         ensures came { CameFrom S.view S.came_from self.old.layers self.new.layers }
         ensures step { (S.view self.old.layers.base).count ≤ s → IfOk result (λ list. IsOneStep hole (plain list.items)) }
-        ensures answers {
-            let before = source_of (view_of (stacking_in S.view self.old.layers)) s in
+        ensures answers { let before = source_of (view_of (stacking_in S.view self.old.layers)) s in
             let after = source_of (view_of (stacking_in S.view self.new.layers)) s in
-            IfOk result (λ list. Answers before after hole (plain list.items))
-        }
-        ensures refused {
-            let before = source_of (view_of (stacking_in S.view self.old.layers)) s in
+            IfOk result (λ list. Answers before after hole (plain list.items)) }
+        ensures refused { let before = source_of (view_of (stacking_in S.view self.old.layers)) s in
             let after = source_of (view_of (stacking_in S.view self.new.layers)) s in
-            IsRefused _ before after hole result
-        }
+            IsRefused _ before after hole result }
         ensures counted { IsCounted _ self.old.layers.fills self.new.layers.fills result }
         ensures unasked { let count = (S.view self.old.layers.base).count in count ≤ s
             → NeedsNone self.old.layers.views.items (s - count) hole → self.new.layers.base ≡ self.old.layers.base }
