@@ -1,6 +1,7 @@
 // What a mounted document answers.
 ghost use Rattle.std.specs.Prelude.{◌≡◌, true, false, IfOk, MatchOption};
 ghost use Rattle.lxp_core.specs.Fill.{Answers, IsRefusedAtOnce};
+ghost use Rattle.lxp_core.specs.declared.open_tree.HoleId.{HoleId};
 ghost use Rattle.lxp_core.specs.Open.{Open};
 ghost use Rattle.lxp_core.specs.Plain.{plain};
 ghost use Rattle.table_keep.specs.Views.{KeepsTables, TablesView};
