@@ -1,4 +1,4 @@
-use Rattle.std.proofs.Common.{◌≡◌, ◌∙◌, ap, sym, subst, true}
+use Rattle.std.proofs.Common.{◌≡◌, ◌∙◌, ap, sym, subst}
 use Rattle.lxp_core.specs.declared.open_tree.HoleId.{HoleId}
 use Rattle.lxp_core.specs.Fill.{Answers}
 use Rattle.lxp_core.specs.Open.{Open}
