@@ -1,10 +1,10 @@
 -- What mounted documents beside sources of other machines mean as sources.
 use Rattle.std.specs.Prelude.{◌≡◌, ◌⊎◌, ℕ, ◌<◌, ◌≤◌, ◌+◌, ◌-◌, ◌*◌, ◌^◌, Bool, true, false, List, get_or, refl}
 use Rattle.std.proofs.Common.{inl, inr, sym, subst, ap, ◌∙◌, arith}
-use Rattle.mix_tree.specs.Forest.{Forest}
 use Rattle.lxp_core.specs.declared.open_tree.HoleId.{HoleId}
+use Rattle.lxp_core.specs.Fill.{Piecewise, source_of}
 use Rattle.lxp_core.specs.View.{View, Keeps}
-use Rattle.far_keep.specs.Views.{FarsView, KeepsFars, far_root}
+use Rattle.far_keep.specs.Views.{FarsView, KeepsFars, far_document, far_root}
 use Rattle.far_keep.specs.declared.far_source.FarSource.{FarSource}
 use Rattle.far_keep.proofs.Views.{fars_after, fars_same}
 use Rattle.mix_mount.specs.Mounts as mount
@@ -35,30 +35,10 @@ abbrev pub root_at : View → ℕ → Site → HoleId
 root_at v s Here = v.root s
 root_at v s (Far far) = far_root
 
--- whether a source tells its document, by where it is
-abbrev pub told_at : View → FarsView → ℕ → Site → Bool
-told_at v fars s Here = v.told s
-told_at v fars s (Far far) = fars.told far
-
--- whether a source knows a hole, by where it is
-abbrev pub knows_at : View → FarsView → ℕ → Site → HoleId → Bool
-knows_at v fars s Here = v.knows s
-knows_at v fars s (Far far) = fars.knows far
-
--- the trees that a hole of a source stands for, by where it is
-abbrev pub forest_at : View → FarsView → ℕ → Site → HoleId → Forest
-forest_at v fars s Here = v.forest s
-forest_at v fars s (Far far) = fars.forest far
-
--- the weight of a hole of a source, by where it is
-abbrev pub weight_at : View → FarsView → ℕ → Site → HoleId → ℕ
-weight_at v fars s Here = v.weight s
-weight_at v fars s (Far far) = fars.weight far
-
--- whether no list of a source begins with a hole, by where it is: one of another machine that is told gives no such list
-abbrev pub forward_at : View → FarsView → ℕ → Site → Bool
-forward_at v fars s Here = v.forward s
-forward_at v fars s (Far far) = fars.told far
+-- the document of a source, given piece by piece, by where it is
+abbrev pub document_at : View → FarsView → ℕ → Site → Piecewise
+document_at v fars s Here = source_of v s
+document_at v fars s (Far far) = far_document fars far
 
 -- whether a fill of a source's hole asks a page of a table, by where it is: one of another machine asks none here
 abbrev pub asks_at : Mounting → ℕ → Site → HoleId → Bool
@@ -70,26 +50,22 @@ abbrev pub rows_of_fill_at : Mounting → ℕ → Site → ℕ
 rows_of_fill_at m s Here = mount.rows_of_fill (mount.mount_at m.docs s)
 rows_of_fill_at m s (Far far) = 0
 
--- how often a source failed, by where it is
-abbrev pub faults_at : View → FarsView → ℕ → Site → ℕ
-faults_at v fars s Here = v.faults s
-faults_at v fars s (Far far) = fars.faults far
-
 -- what mounted documents beside sources of other machines mean as sources
 abbrev pub view_of : Reaching → View
 view_of r =
     let v = mount.view_of r.mounted in
+    let at : ℕ → Piecewise = λ s. document_at v r.fars s (site_at r.sites s) in
     record {
       count = v.count;
       root = λ s. root_at v s (site_at r.sites s);
-      told = λ s. told_at v r.fars s (site_at r.sites s);
-      knows = λ s. knows_at v r.fars s (site_at r.sites s);
-      forest = λ s. forest_at v r.fars s (site_at r.sites s);
-      weight = λ s. weight_at v r.fars s (site_at r.sites s);
-      forward = λ s. forward_at v r.fars s (site_at r.sites s);
+      told = λ s. (at s).told;
+      knows = λ s. (at s).knows;
+      forest = λ s. (at s).forest;
+      weight = λ s. (at s).weight;
+      forward = λ s. (at s).forward;
       small = λ s. true;
       fills = r.fills;
-      faults = λ s. faults_at v r.fars s (site_at r.sites s);
+      faults = λ s. (at s).faults;
     }
 
 -- between two states no more pages were asked than fills, up to the end of the count of fills
@@ -155,32 +131,32 @@ module _ (old new : View) (fo fn : FarsView) (keeps : Keeps old new) (fars : Kee
   root_kept (Far far) = refl
 
   -- a source tells its document exactly where it did before
-  told_kept : (site : Site) → told_at new fn s site ≡ told_at old fo s site
+  told_kept : (site : Site) → (document_at new fn s site).told ≡ (document_at old fo s site).told
   told_kept Here = keeps.told s
   told_kept (Far far) = fars.told far
 
   -- a source gives no list that begins with a hole exactly where it gave none before
-  forward_kept : (site : Site) → forward_at new fn s site ≡ forward_at old fo s site
+  forward_kept : (site : Site) → (document_at new fn s site).forward ≡ (document_at old fo s site).forward
   forward_kept Here = keeps.forward s
   forward_kept (Far far) = fars.told far
 
   -- each hole that a source knew it knows
-  knows_kept : (h : HoleId) (site : Site) → knows_at old fo s site h ≡ true → knows_at new fn s site h ≡ true
+  knows_kept : (h : HoleId) (site : Site) → (document_at old fo s site).knows h ≡ true → (document_at new fn s site).knows h ≡ true
   knows_kept h Here k = keeps.knows s h k
   knows_kept h (Far far) k = fars.knows far h k
 
   -- each hole that a source knew stands for the same trees
-  forest_kept : (h : HoleId) (site : Site) → knows_at old fo s site h ≡ true → forest_at new fn s site h ≡ forest_at old fo s site h
+  forest_kept : (h : HoleId) (site : Site) → (document_at old fo s site).knows h ≡ true → (document_at new fn s site).forest h ≡ (document_at old fo s site).forest h
   forest_kept h Here k = keeps.forest s h k
   forest_kept h (Far far) k = fars.forest far h k
 
   -- each hole that a source knew weighs the same
-  weight_kept : (h : HoleId) (site : Site) → knows_at old fo s site h ≡ true → weight_at new fn s site h ≡ weight_at old fo s site h
+  weight_kept : (h : HoleId) (site : Site) → (document_at old fo s site).knows h ≡ true → (document_at new fn s site).weight h ≡ (document_at old fo s site).weight h
   weight_kept h Here k = keeps.weight s h k
   weight_kept h (Far far) k = fars.weight far h k
 
   -- a source's count of faults doesn't fall
-  faults_kept : (site : Site) → faults_at old fo s site ≤ faults_at new fn s site
+  faults_kept : (site : Site) → (document_at old fo s site).faults ≤ (document_at new fn s site).faults
   faults_kept Here = keeps.faults s
   faults_kept (Far far) = fars.faults far
 
@@ -193,15 +169,15 @@ came_keeps a b x =
     record {
       count = keeps.count;
       root = λ s. ap (λ (sites : List Site). root_at new s (site_at sites s)) x.sites ∙ root_kept old new a.fars b.fars keeps x.fars s (site_at a.sites s);
-      told = λ s. ap (λ (sites : List Site). told_at new b.fars s (site_at sites s)) x.sites ∙ told_kept old new a.fars b.fars keeps x.fars s (site_at a.sites s);
-      forward = λ s. ap (λ (sites : List Site). forward_at new b.fars s (site_at sites s)) x.sites ∙ forward_kept old new a.fars b.fars keeps x.fars s (site_at a.sites s);
+      told = λ s. ap (λ (sites : List Site). (document_at new b.fars s (site_at sites s)).told) x.sites ∙ told_kept old new a.fars b.fars keeps x.fars s (site_at a.sites s);
+      forward = λ s. ap (λ (sites : List Site). (document_at new b.fars s (site_at sites s)).forward) x.sites ∙ forward_kept old new a.fars b.fars keeps x.fars s (site_at a.sites s);
       small = λ s. refl;
-      knows = λ s h k. ap (λ (sites : List Site). knows_at new b.fars s (site_at sites s) h) x.sites ∙ knows_kept old new a.fars b.fars keeps x.fars s h (site_at a.sites s) k;
-      forest = λ s h k. ap (λ (sites : List Site). forest_at new b.fars s (site_at sites s) h) x.sites ∙ forest_kept old new a.fars b.fars keeps x.fars s h (site_at a.sites s) k;
-      weight = λ s h k. ap (λ (sites : List Site). weight_at new b.fars s (site_at sites s) h) x.sites ∙ weight_kept old new a.fars b.fars keeps x.fars s h (site_at a.sites s) k;
+      knows = λ s h k. ap (λ (sites : List Site). (document_at new b.fars s (site_at sites s)).knows h) x.sites ∙ knows_kept old new a.fars b.fars keeps x.fars s h (site_at a.sites s) k;
+      forest = λ s h k. ap (λ (sites : List Site). (document_at new b.fars s (site_at sites s)).forest h) x.sites ∙ forest_kept old new a.fars b.fars keeps x.fars s h (site_at a.sites s) k;
+      weight = λ s h k. ap (λ (sites : List Site). (document_at new b.fars s (site_at sites s)).weight h) x.sites ∙ weight_kept old new a.fars b.fars keeps x.fars s h (site_at a.sites s) k;
       fills = x.fills;
       faults = λ s.
-          subst (λ (sites : List Site). faults_at old a.fars s (site_at a.sites s) ≤ faults_at new b.fars s (site_at sites s)) (sym x.sites)
+          subst (λ (sites : List Site). (document_at old a.fars s (site_at a.sites s)).faults ≤ (document_at new b.fars s (site_at sites s)).faults) (sym x.sites)
           (faults_kept old new a.fars b.fars keeps x.fars s (site_at a.sites s));
     }
 
@@ -209,7 +185,7 @@ came_keeps a b x =
 pub reached_root_known : (a : Reaching) → ((far : FarSource) → a.fars.knows far far_root ≡ true) → (s : ℕ) → s < (view_of a).count → (view_of a).knows s ((view_of a).root s) ≡ true
 reached_root_known a far_known s h = known (site_at a.sites s)
   where
-    known : (site : Site) → knows_at (mount.view_of a.mounted) a.fars s site (root_at (mount.view_of a.mounted) s site) ≡ true
+    known : (site : Site) → (document_at (mount.view_of a.mounted) a.fars s site).knows (root_at (mount.view_of a.mounted) s site) ≡ true
     known Here = mount.mounted_root_known a.mounted s h
     known (Far far) = far_known far
 

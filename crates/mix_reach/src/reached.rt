@@ -53,11 +53,10 @@ impl<T, R> Reached<T, R> {
 }
 
 impl<T: Tables, R: Fars> Reached<T, R> {
-    ghost use Rattle.std.specs.Prelude.{◌≡◌, ◌<◌, ◌+◌, ◌≤◌, ◌⊎◌, true, false, IfOk, IsErrOf};
-    ghost use Rattle.mix_base.specs.Counts.{HasRisen};
-    ghost use Rattle.lxp_core.specs.Open.{closed, weight_of, AllHoles, IsProgress, begins_with_hole};
+    ghost use Rattle.std.specs.Prelude.{◌≡◌, ◌<◌, false, IfOk};
+    ghost use Rattle.lxp_core.specs.Fill.{Answers, IsRefused, source_of};
     ghost use Rattle.lxp_core.specs.Plain.{plain};
-    ghost use Rattle.lxp_core.specs.Small.{IsSmall};
+    ghost use Rattle.source_document.specs.Meaning.{IsPaged};
     ghost use Rattle.mix_mount.specs.Mounts.{tables_of};
     ghost use Rattle.mix_reach.specs.Reach.{CameUncounted, asks_at, reaching_in, rows_of_fill_at, site_at, view_of};
 
@@ -67,22 +66,18 @@ impl<T: Tables, R: Fars> Reached<T, R> {
         ensures came { CameUncounted (reaching_in T.view R.view self.old) (reaching_in T.view R.view self.new) }
         ensures untouched { let old = reaching_in T.view R.view self.old in asks_at old.mounted s (site_at old.sites s) hole ≡ false
             → tables_of self.new.mounted ≡ tables_of self.old.mounted }
-        ensures at_most_chunk { let old = reaching_in T.view R.view self.old in let new = reaching_in T.view R.view self.new in
-            new.mounted.tables.rows ≤ old.mounted.tables.rows + rows_of_fill_at old.mounted s (site_at old.sites s) }
-        ensures closes { let old = view_of (reaching_in T.view R.view self.old) in let new = view_of (reaching_in T.view R.view self.new) in
-            IfOk result (λ list. old.told s ≡ true → closed (new.forest s) (plain list.items) ≡ old.forest s hole) }
-        ensures progress { IfOk result (λ list. IsProgress (plain list.items)) }
-        ensures known { IfOk result (λ list. AllHoles ((view_of (reaching_in T.view R.view self.new)).knows s) (plain list.items)) }
-        ensures lighter { let old = view_of (reaching_in T.view R.view self.old) in let new = view_of (reaching_in T.view R.view self.new) in
-            IfOk result (λ list. weight_of (new.weight s) (plain list.items) ≤ old.weight s hole) }
-        ensures forward { let old = view_of (reaching_in T.view R.view self.old) in
-            IfOk result (λ list. old.forward s ≡ true → begins_with_hole (plain list.items) ≡ false) }
-        ensures small { IfOk result (λ list. IsSmall (plain list.items)) }
-        ensures failed { let old = view_of (reaching_in T.view R.view self.old) in let new = view_of (reaching_in T.view R.view self.new) in
-            IsErrOf result SourceFault.Failed → HasRisen (old.faults s) (new.faults s) }
-        ensures unknown { IsErrOf result SourceFault.UnknownHole → (view_of (reaching_in T.view R.view self.old)).knows s hole ≡ false }
-        ensures only_unknown { (view_of (reaching_in T.view R.view self.old)).knows s hole ≡ false
-            → IsErrOf result SourceFault.UnknownHole ⊎ IsErrOf result SourceFault.OutOfMemory }
+        ensures paged { let old = reaching_in T.view R.view self.old in let new = reaching_in T.view R.view self.new in
+            IsPaged (rows_of_fill_at old.mounted s (site_at old.sites s)) old.mounted.tables new.mounted.tables }
+        ensures answers {
+            let before = source_of (view_of (reaching_in T.view R.view self.old)) s in
+            let after = source_of (view_of (reaching_in T.view R.view self.new)) s in
+            IfOk result (λ list. Answers before after hole (plain list.items))
+        }
+        ensures refused {
+            let before = source_of (view_of (reaching_in T.view R.view self.old)) s in
+            let after = source_of (view_of (reaching_in T.view R.view self.new)) s in
+            IsRefused _ before after hole result
+        }
     {
         match far_at(&self.sites, s) {
             Some(far) => self.fars.fill(alloc, far, hole),
@@ -92,11 +87,10 @@ impl<T: Tables, R: Fars> Reached<T, R> {
 }
 
 impl<T: Tables, R: Fars> Sources for Reached<T, R> {
-    ghost use Rattle.std.specs.Prelude.{◌≡◌, ◌<◌, ◌+◌, ◌≤◌, ◌⊎◌, true, false, IfOk, OnOk, IsErrOf};
-    ghost use Rattle.mix_base.specs.Counts.{HasRisen};
-    ghost use Rattle.lxp_core.specs.Open.{closed, weight_of, AllHoles, IsProgress, begins_with_hole};
+    ghost use Rattle.std.specs.Prelude.{◌≡◌, ◌<◌, false, IfOk};
+    ghost use Rattle.lxp_core.specs.Fill.{Answers, IsCounted, IsRefused, source_of};
     ghost use Rattle.lxp_core.specs.Plain.{plain};
-    ghost use Rattle.lxp_core.specs.Small.{IsSmall};
+    ghost use Rattle.source_document.specs.Meaning.{IsPaged};
     ghost use Rattle.mix_mount.specs.Mounts.{tables_of};
     ghost use Rattle.mix_reach.specs.Reach.{asks_at, reaching_in, rows_of_fill_at, site_at, view_of, CameFrom, came_same, came_after, came_keeps, reached_root_known};
 
@@ -118,36 +112,22 @@ impl<T: Tables, R: Fars> Sources for Reached<T, R> {
     fn fill(&mut self, alloc: Global, s: u32, hole: HoleId) -> Result<Vec<OpenTree>, SourceFault>
         requires { s < (view_of (reaching_in T.view R.view self.old)).count }
         ensures came { CameFrom (reaching_in T.view R.view self.old) (reaching_in T.view R.view self.new) }
-        // What the answer promises.
-        ensures closes { let old = view_of (reaching_in T.view R.view self.old) in let new = view_of (reaching_in T.view R.view self.new) in
-            IfOk result (λ list. old.told s ≡ true → closed (new.forest s) (plain list.items) ≡ old.forest s hole) }
-        ensures progress { IfOk result (λ list. IsProgress (plain list.items)) }
-        ensures known { IfOk result (λ list. AllHoles ((view_of (reaching_in T.view R.view self.new)).knows s) (plain list.items)) }
-        ensures lighter { let old = view_of (reaching_in T.view R.view self.old) in let new = view_of (reaching_in T.view R.view self.new) in
-            IfOk result (λ list. weight_of (new.weight s) (plain list.items) ≤ old.weight s hole) }
-        ensures forward { let old = view_of (reaching_in T.view R.view self.old) in
-            IfOk result (λ list. old.forward s ≡ true → begins_with_hole (plain list.items) ≡ false) }
-        ensures small { IfOk result (λ list. (view_of (reaching_in T.view R.view self.old)).small s ≡ true → IsSmall (plain list.items)) }
-        // The counts.
-        ensures at_most_one { let old = view_of (reaching_in T.view R.view self.old) in let new = view_of (reaching_in T.view R.view self.new) in
-            new.fills ≤ old.fills + 1 }
-        ensures counted { let old = view_of (reaching_in T.view R.view self.old) in let new = view_of (reaching_in T.view R.view self.new) in
-            OnOk result (HasRisen old.fills new.fills) }
-        ensures counted_failed { let old = view_of (reaching_in T.view R.view self.old) in let new = view_of (reaching_in T.view R.view self.new) in
-            IsErrOf result SourceFault.Failed → HasRisen old.fills new.fills }
+        ensures answers {
+            let before = source_of (view_of (reaching_in T.view R.view self.old)) s in
+            let after = source_of (view_of (reaching_in T.view R.view self.new)) s in
+            IfOk result (λ list. Answers before after hole (plain list.items))
+        }
+        ensures refused {
+            let before = source_of (view_of (reaching_in T.view R.view self.old)) s in
+            let after = source_of (view_of (reaching_in T.view R.view self.new)) s in
+            IsRefused _ before after hole result
+        }
+        ensures counted { IsCounted _ self.old.fills self.new.fills result }
         // The pages: a fill of rows of a table asks for one, of no more rows than the table's chunk, and no other fill touches the tables.
-        ensures at_most_one_page { let old = reaching_in T.view R.view self.old in let new = reaching_in T.view R.view self.new in
-            new.mounted.tables.pages ≤ old.mounted.tables.pages + 1 }
         ensures untouched { let old = reaching_in T.view R.view self.old in asks_at old.mounted s (site_at old.sites s) hole ≡ false
             → tables_of self.new.mounted ≡ tables_of self.old.mounted }
-        ensures at_most_chunk { let old = reaching_in T.view R.view self.old in let new = reaching_in T.view R.view self.new in
-            new.mounted.tables.rows ≤ old.mounted.tables.rows + rows_of_fill_at old.mounted s (site_at old.sites s) }
-        // The causes.
-        ensures failed { let old = view_of (reaching_in T.view R.view self.old) in let new = view_of (reaching_in T.view R.view self.new) in
-            IsErrOf result SourceFault.Failed → HasRisen (old.faults s) (new.faults s) }
-        ensures unknown { IsErrOf result SourceFault.UnknownHole → (view_of (reaching_in T.view R.view self.old)).knows s hole ≡ false }
-        ensures only_unknown { (view_of (reaching_in T.view R.view self.old)).knows s hole ≡ false
-            → IsErrOf result SourceFault.UnknownHole ⊎ IsErrOf result SourceFault.OutOfMemory }
+        ensures paged { let old = reaching_in T.view R.view self.old in let new = reaching_in T.view R.view self.new in
+            IsPaged (rows_of_fill_at old.mounted s (site_at old.sites s)) old.mounted.tables new.mounted.tables }
     {
         let answer = self.give(alloc, s, hole);
         self.fills = self.fills.saturating_add(1);

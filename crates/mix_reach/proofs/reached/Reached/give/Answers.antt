@@ -2,6 +2,8 @@ use Rattle.std.proofs.Common.{refl, arith}
 use Rattle.far_keep.proofs.Views.{fars_same}
 use Rattle.mix_mount.specs.Mounts.{docs_of}
 use Rattle.mix_mount.proofs.Rows.{most_at}
+use Rattle.mix_reach.specs.Reach.{reaching_in}
+use Rattle.mix_reach.proofs.Sited.{source_far, source_here}
 use Rattle.mix_reach.proofs.reached.Reached.give.Goals as goal
 
 pub returns-in-None-clause-came : goal.returns-in-None-clause-came
@@ -12,6 +14,6 @@ returns-in-None-clause-came g c =
       sites = refl;
       fars = fars_same (g.R.Fars.view c.args.self.now.fars);
       fills = refl;
-      pages = fill.at_most_one_page;
-      rows = omega (arith, fill.at_most_chunk, most_at (docs_of c.args.self.now.mounted) c.args.s);
+      pages = fill.paged.at_most_one;
+      rows = omega (arith, fill.paged.at_most_rows, most_at (docs_of c.args.self.now.mounted) c.args.s);
     }
