@@ -7,7 +7,7 @@ use Rattle.bracket_wrap.specs.declared.bracket.BracketDoc.{BracketDoc}
 use Rattle.bracket_wrap.specs.declared.holes.Rest.{Rest}
 use Rattle.bracket_wrap.specs.Holes.{given_from, hole_rest}
 use Rattle.source_document.specs.Meaning.{without_tables}
-use Rattle.bracket_wrap.specs.Bracket.{given, knows, means}
+use Rattle.bracket_wrap.specs.Bracket.{given, means}
 use Rattle.bracket_wrap.proofs.Answering.{answers-given}
 use Rattle.bracket_wrap.proofs.bracket.BracketDoc.fill.Goals as goal
 
