@@ -68,16 +68,12 @@ impl<T: Tables, R: Fars> Reached<T, R> {
             → tables_of self.new.mounted ≡ tables_of self.old.mounted }
         ensures paged { let old = reaching_in T.view R.view self.old in let new = reaching_in T.view R.view self.new in
             IsPaged (rows_of_fill_at old.mounted s (site_at old.sites s)) old.mounted.tables new.mounted.tables }
-        ensures answers {
-            let before = source_of (view_of (reaching_in T.view R.view self.old)) s in
+        ensures answers { let before = source_of (view_of (reaching_in T.view R.view self.old)) s in
             let after = source_of (view_of (reaching_in T.view R.view self.new)) s in
-            IfOk result (λ list. Answers before after hole (plain list.items))
-        }
-        ensures refused {
-            let before = source_of (view_of (reaching_in T.view R.view self.old)) s in
+            IfOk result (λ list. Answers before after hole (plain list.items)) }
+        ensures refused { let before = source_of (view_of (reaching_in T.view R.view self.old)) s in
             let after = source_of (view_of (reaching_in T.view R.view self.new)) s in
-            IsRefused _ before after hole result
-        }
+            IsRefused _ before after hole result }
     {
         match far_at(&self.sites, s) {
             Some(far) => self.fars.fill(alloc, far, hole),
@@ -112,16 +108,12 @@ impl<T: Tables, R: Fars> Sources for Reached<T, R> {
     fn fill(&mut self, alloc: Global, s: u32, hole: HoleId) -> Result<Vec<OpenTree>, SourceFault>
         requires { s < (view_of (reaching_in T.view R.view self.old)).count }
         ensures came { CameFrom (reaching_in T.view R.view self.old) (reaching_in T.view R.view self.new) }
-        ensures answers {
-            let before = source_of (view_of (reaching_in T.view R.view self.old)) s in
+        ensures answers { let before = source_of (view_of (reaching_in T.view R.view self.old)) s in
             let after = source_of (view_of (reaching_in T.view R.view self.new)) s in
-            IfOk result (λ list. Answers before after hole (plain list.items))
-        }
-        ensures refused {
-            let before = source_of (view_of (reaching_in T.view R.view self.old)) s in
+            IfOk result (λ list. Answers before after hole (plain list.items)) }
+        ensures refused { let before = source_of (view_of (reaching_in T.view R.view self.old)) s in
             let after = source_of (view_of (reaching_in T.view R.view self.new)) s in
-            IsRefused _ before after hole result
-        }
+            IsRefused _ before after hole result }
         ensures counted { IsCounted _ self.old.fills self.new.fills result }
         // The pages: a fill of rows of a table asks for one, of no more rows than the table's chunk, and no other fill touches the tables.
         ensures untouched { let old = reaching_in T.view R.view self.old in asks_at old.mounted s (site_at old.sites s) hole ≡ false

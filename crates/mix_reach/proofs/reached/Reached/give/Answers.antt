@@ -2,8 +2,6 @@ use Rattle.std.proofs.Common.{refl, arith}
 use Rattle.far_keep.proofs.Views.{fars_same}
 use Rattle.mix_mount.specs.Mounts.{docs_of}
 use Rattle.mix_mount.proofs.Rows.{most_at}
-use Rattle.mix_reach.specs.Reach.{reaching_in}
-use Rattle.mix_reach.proofs.Sited.{source_far, source_here}
 use Rattle.mix_reach.proofs.reached.Reached.give.Goals as goal
 
 pub returns-in-None-clause-came : goal.returns-in-None-clause-came
