@@ -1,9 +1,17 @@
-mod Ending
+mod Answering
+mod Cutting
+mod Ended
+mod Far
+mod Hearing
 pub mod Letting
+mod Long
 mod Paid
+mod Parts
 mod Paying
-mod Running
+pub mod Script
 pub mod SoFar
 mod Stepping
 pub mod Telling
+pub mod Timely
 pub mod Unmarked
+mod Whole

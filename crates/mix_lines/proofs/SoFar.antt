@@ -23,7 +23,7 @@ use Rattle.mix_session.specs.Held.{HoldNodes, HoldTold}
 use Rattle.mix_session.specs.Stepped.{IsStep, NamesGiven, Stepped, act_toll, owed_before, tree_toll}
 use Rattle.mix_session.proofs.TollLess.{act_toll_less, tree_toll_less}
 use Rattle.mix_session.proofs.Walking.{goes_on_twice, goes_on_same}
-use Rattle.mix_lines.specs.Lines.{IsRun, IsLazy}
+use Rattle.mix_lines.specs.Ends.{IsRun, IsLazy}
 use Rattle.mix_lines.specs.Written.{IsOnTree, IsPaidSoFar, IsSoFar}
 use Rattle.mix_lines.proofs.Paid.{paid_start, paid_begun, paid_next, paid_whole}
 use Rattle.mix_lines.proofs.Paying.{held_places}
