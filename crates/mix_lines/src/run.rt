@@ -23,7 +23,7 @@ use std::alloc::Global;
 
 /// Answers steps on the document of a mediator's plan, each by a line in one write; `names` has the sources' names by their
 /// numbers. True: a fault line was written. The sources are asked piece by piece, as the steps need it (docs/MEANING.md,
-/// "Lines of runs and walks").
+/// "Lines that answer what is heard").
 ///
 /// `SinkFailed`: the sink failed. After either error whole lines were written and at most a prefix of the next.
 pub fn run_lines<S: Sources, K: Sink>(

@@ -23,7 +23,7 @@ use tree_buffer::Buffer;
 
 /// Answers steps on the document of one source, each by a line in one write; `names` has the sources' names. True: a fault
 /// line was written. No step writes an identifier down or follows one. The document is asked for piece by piece, as the steps need
-/// it (docs/MEANING.md, "Lines of runs and walks").
+/// it (docs/MEANING.md, "Lines that answer what is heard").
 ///
 /// `SinkFailed`: the sink failed. After either error whole lines were written and at most a prefix of the next.
 pub fn walk_lines<S: Sources, K: Sink>(
