@@ -52,10 +52,10 @@ asked_first : (r r' : Steps) (heard : List Heard) → r.asked ≡ 0 → AreAsked
 asked_first r r' heard none come = ap (λ n. map step (take n r.steps.now) ++ heard) (sym none) ∙ come.1 ∙ ap (λ s. map step (take r'.asked s.now)) come.0
 
 -- the steps of a script that were asked for are let be answered where all are
-pub lets_asked : {W : Type 0} (c : Course W) (r r' : Steps) (heard : List Heard) → r.asked ≡ 0 → LetsAll c r.steps.now → AreAsked r r' heard → LetsAll c (steps_in heard)
-lets_asked c r r' heard none lets come =
+pub lets_asked : {W : Type 0} (c : Course W) (steps : List Step) (r r' : Steps) (heard : List Heard) → r.steps.now ≡ steps → r.asked ≡ 0 → LetsAll c steps → AreAsked r r' heard → LetsAll c (steps_in heard)
+lets_asked c steps r r' heard all none lets come =
     let same : steps_in heard ≡ take r'.asked r.steps.now = ap steps_in (asked_first r r' heard none come) ∙ steps_of_script (take r'.asked r.steps.now) in
-    subst (LetsAll c) (sym same) (lets_first c r'.asked r.steps.now lets)
+    subst (LetsAll c) (sym same) (lets_first c r'.asked r.steps.now (subst (LetsAll c) (sym all) lets))
 
 -- the first steps and those after them are all
 first_and_later : (n : ℕ) (steps : List Step) → map step (take n steps) ++ map step (drop n steps) ≡ map step steps
@@ -82,10 +82,10 @@ inputless_short (Err InputFailed) cut = absurd cut
 inputless_short (Err SinkFailed) cut = tt
 inputless_short (Err OutOfMemory) cut = tt
 
-module _ {W : Type 0} (c : Course W) (old new : View) (names : List (List ℕ)) (before after : SinkView) (start : Steps) (none : start.asked ≡ 0) (r : Result Bool LinesFault) where
+module _ {W : Type 0} (c : Course W) (old new : View) (names : List (List ℕ)) (steps : List Step) (before after : SinkView) (start : Steps) (same : start.steps.now ≡ steps) (none : start.asked ≡ 0) (r : Result Bool LinesFault) where
   -- how lines end that answer what is heard of the script, which needs no input
   abbrev Ended : Type 0
-  Ended = Ends c old new names (map step start.steps.now) before after r × IsInputless r
+  Ended = Ends c old new names (map step steps) before after r × IsInputless r
 
   -- where the lines end so whatever is asked for later, they end so for the script
   ended_by : (requests last : Steps) (done : List Heard) (call : Result Bool TakeFault) → AreAsked start requests done → IsNext requests last call → EndsAfter call r
@@ -93,12 +93,12 @@ module _ {W : Type 0} (c : Course W) (old new : View) (names : List (List ℕ)) 
   ended_by requests last done (Ok true) come moved cut ends =
       let later = map step (drop last.asked start.steps.now) in
       let asked : done ++ asked_by last ≡ map step (take last.asked start.steps.now) = asked_first start last (done ++ asked_by last) none (next_after start requests last done come moved) in
-      let all : done ++ (asked_by last ++ later) ≡ map step start.steps.now =
-      sym (append_assoc done (asked_by last) later) ∙ ap (λ h. h ++ later) asked ∙ first_and_later last.asked start.steps.now in
+      let all : done ++ (asked_by last ++ later) ≡ map step steps =
+      sym (append_assoc done (asked_by last) later) ∙ ap (λ h. h ++ later) asked ∙ first_and_later last.asked start.steps.now ∙ ap (map step) same in
       (subst (λ h. Ends c old new names h before after r) all (ends later (later_short r later cut)), inputless_short r cut)
   ended_by requests last done (Ok false) come moved whole ends =
-      let count : length start.steps.now ≤ requests.asked = let e = moved.1 in let same = ap (λ s. length s.now) come.0 in omega (arith, e, same) in
-      let all : done ++ [] ≡ map step start.steps.now = append_nil done ∙ asked_first start requests done none come ∙ ap (map step) (take_all requests.asked start.steps.now count) in
+      let count : length start.steps.now ≤ requests.asked = let e = moved.1 in let long = ap (λ s. length s.now) come.0 in omega (arith, e, long) in
+      let all : done ++ [] ≡ map step steps = append_nil done ∙ asked_first start requests done none come ∙ ap (map step) (take_all requests.asked start.steps.now count ∙ same) in
       (subst (λ h. Ends c old new names h before after r) all (ends [] (later_none r)), subst IsInputless (sym whole.1) tt)
   ended_by requests last done (Err fault) come moved ends_after ends = absurd moved
 
