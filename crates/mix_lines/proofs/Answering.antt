@@ -65,9 +65,11 @@ module _ {V X : Type 0} (c : Course X) (m m' : Meaning V X) (old now v' : View) 
   step_cut : (s : step.Step) (answered : Result Answer AllocError) → Stepped m m' now v' values values' s.client s.act answered → (fault : LinesFault) → IsSaid names s.client between sink' answered (Err fault)
       → sink.faults ≤ between.faults → CutAt (heard.step s ∷ []) fault
   step_cut s (Ok a) stepped fault said count =
-      (step_short (λ x. x ≡ a) names s.client between sink' fault said, far_cut c m old now values names done sink between marked far s m' v' values' rises (Ok a) stepped a stepped.answer stepped.names sink' count fault said)
+      let cut = far_cut c m old now values names done sink between marked far s m' v' values' rises (Ok a) stepped a stepped.answer stepped.names sink' count fault said in
+      (step_short (λ x. x ≡ a) names s.client between sink' fault said, cut.0, cut.1)
   step_cut s (Err e) stepped fault said count =
-      rw (said.0, said.1) (tt, far_short c m old now values names done sink between marked far s m' v' values' rises (Err e) stepped)
+      let cut = far_short c m old now values names done sink between marked far s m' v' values' rises (Err e) stepped in
+      rw (said.0, said.1) (tt, cut.0, cut.1)
 
 -- a request was answered by a session over sources
 module _ {U P V X : Type 0} (s s' : U) (session session' : P) (view : U → View) (means : U → P → Meaning V X) (values : P → NamesOf V) (c : Course X) (old : View) (names : List (List ℕ)) (done : List Heard)
@@ -91,6 +93,8 @@ module _ {U P V X : Type 0} (s s' : U) (session session' : P) (view : U → View
       → RequestCut (request_asks request) fault
   request_cut Passed fault is count = absurd (let e = is.3 in cc)
   request_cut NoForm fault is count =
-      rw is.0 (no_form_short between sink' fault is.2, far_no_form_cut c (means s session) old (view s) (values session) names done sink between marked far sink' count fault is.2)
+      let cut = far_no_form_cut c (means s session) old (view s) (values session) names done sink between marked far sink' count fault is.2 in
+      let Ended : U → Type 0 = λ x. (later : List Heard) → Ends c old (view x) names (done ++ heard.no_form ∷ later) sink sink' (Err fault) in
+      (no_form_short between sink' fault is.2, cut.0, subst Ended (sym is.0) cut.1)
   request_cut (Step step) fault is count =
       step_cut c (means s session) (means s' session') old (view s) (view s') (values session) (values session') names done sink between sink' marked far rises step.now is.answer is.stepped fault is.said count

@@ -39,7 +39,7 @@ module _ {R F V W : Type 0} (Come : R → F → List Heard → Type 0) (Moved : 
     come = come;
     answers = far.answers;
     all = far.all;
-    rest = [];
+    rest = (there c m old now values names done sink between marked far).0;
     written = (there c m old now values names done sink between marked far).1;
     last = last;
     call = Err fault;
@@ -62,7 +62,7 @@ module _ {R F V W : Type 0} (Come : R → F → List Heard → Type 0) (Moved : 
     come = come;
     answers = far.answers;
     all = far.all;
-    rest = [];
+    rest = (there c m old now values names done sink between marked far).0;
     written = (there c m old now values names done sink between marked far).1;
     last = last;
     call = Ok false;

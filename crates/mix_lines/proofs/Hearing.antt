@@ -12,6 +12,7 @@ use Rattle.mix_io.proofs.Taken.{took_none, took_more}
 use Rattle.lxp_core.specs.View.{View}
 use Rattle.mix_script.specs.declared.answer.Answer.{Answer}
 use Rattle.mix_script.specs.declared.step.LineRead.{LineRead}
+use Rattle.mix_script.specs.declared.step.Step.{Step}
 use Rattle.mix_session.specs.Meaning.{Course}
 use Rattle.mix_lines.specs.Answered.{AreAnswered, EndsAfter, IsCutByAnswer, IsLater}
 use Rattle.mix_lines.specs.Cuts.{of_take}
@@ -19,7 +20,7 @@ use Rattle.mix_lines.specs.Ends.{Ends}
 use Rattle.mix_lines.specs.Heard.{Heard, heard, next_asks, steps_in, whole_lines}
 use Rattle.mix_lines.specs.Lines.{spoken}
 use Rattle.mix_lines.specs.Reading.{AreAskedInTime, ArePieces, AreRead, IsMoved, IsReaderOf, Reads, TookSome, read_asks}
-use Rattle.mix_lines.specs.ReadingLaws.{passed_asks, read_more, timely_more}
+use Rattle.mix_lines.specs.ReadingLaws.{passed_asks, timely_more}
 use Rattle.mix_lines.specs.Requests.{coming}
 use Rattle.mix_lines.specs.Talks.{HeardEnds, IsInputLeft, IsTakenInTime, heard_by}
 use Rattle.mix_lines.specs.declared.fault.LinesFault.{LinesFault}
@@ -97,33 +98,32 @@ module _ {W : Type 0} (c : Course W) (old new : View) (names : List (List ℕ)) 
   Ended later r = Ends c old new names (done ++ later) sink sink' r
 
   -- where a line was read last, or the input has ended, the bytes that were taken ask for what was answered, that line, and what the reader has
-  all_asks : (r2 : LineReader) (read : Option LineRead) (reads : Reads mid input' r1 r2 read) → mid.faults ≤ input'.faults → heard (far.bytes ++ reads.bytes) ≡ done ++ (next_asks read ++ heard r2.page)
-  all_asks r2 read reads rises =
-      let parts : far.bytes ++ reads.bytes ≡ (far.passed ++ reads.line) ++ r2.page =
-      ap (λ b. b ++ reads.bytes) cut ∙ append_assoc far.passed r1.page reads.bytes ∙ ap (λ b. far.passed ++ b) reads.cut ∙ sym (append_assoc far.passed reads.line r2.page) in
-      ap heard parts ∙ (read_more input mid input' start r1 r2 done read far reader reads rises).ask r2.page (λ ended. (reads.reader ended).0)
-      ∙ append_assoc done (next_asks read) (heard r2.page)
+  all_asks : (r2 : LineReader) (read : Option LineRead) (reads : Reads mid input' r1 r2 read) → heard (far.bytes ++ reads.bytes) ≡ done ++ (next_asks read ++ heard r2.page)
+  all_asks r2 read reads =
+      ap heard (ap (λ b. b ++ reads.bytes) cut ∙ append_assoc far.passed r1.page reads.bytes ∙ ap (λ b. far.passed ++ b) reads.cut)
+      ∙ far.ask (reads.line ++ r2.page) (λ ended. sym reads.cut ∙ ap (λ b. r1.page ++ b) (reads.still ended).0 ∙ append_nil r1.page ∙ (reader ended).0)
+      ∙ ap (λ h. done ++ h) (reads.ask r2.page (λ ended. (reads.reader ended).0))
 
   -- the talk has ended where its lines did, after the line that was read last or at the end of the input
-  ends_at : (r : Result Bool LinesFault) (r2 : LineReader) (read : Option LineRead) (reads : Reads mid input' r1 r2 read) → mid.faults ≤ input'.faults → ((bytes : List ℕ) → heard_by bytes r ≡ heard bytes) → IsInputLeft input input' r
+  ends_at : (r : Result Bool LinesFault) (r2 : LineReader) (read : Option LineRead) (reads : Reads mid input' r1 r2 read) → ((bytes : List ℕ) → heard_by bytes r ≡ heard bytes) → IsInputLeft input input' r
       → Ended (next_asks read ++ heard r2.page) r → Talked r
-  ends_at r r2 read reads rises by left ends =
+  ends_at r r2 read reads by left ends =
       let bytes = far.bytes ++ reads.bytes in
       talk_ends c old new names input input' sink sink' r bytes (took_more input mid input' far.bytes reads.bytes far.took reads.took) (timely_next reads.bytes reads.pieces (λ ended. (reads.still ended).0)) left
-      (subst (λ h. Ends c old new names h sink sink' r) (sym (by bytes ∙ all_asks r2 read reads rises)) ends)
+      (subst (λ h. Ends c old new names h sink sink' r) (sym (by bytes ∙ all_asks r2 read reads)) ends)
 
   -- where a line's answer was cut short, the talk ends
   by_cut : (r : Result Bool LinesFault) → IsCutByAnswer r → (r2 : InputLines) → IsMoved mid input' r1 r2 (Ok true) → ((later : List Heard) → IsLater r later → Ended (read_asks r2.read ++ later) r) → Talked r
   by_cut (Ok marked) short r2 moved ends = absurd short
   by_cut (Err InputFailed) short r2 moved ends = absurd short
-  by_cut (Err SinkFailed) short r2 moved ends = ends_at (Err SinkFailed) r2.reader (Some r2.read) moved.0 moved.1 (λ bytes. refl) tt (ends (heard r2.reader.page) tt)
-  by_cut (Err OutOfMemory) short r2 moved ends = ends_at (Err OutOfMemory) r2.reader (Some r2.read) moved.0 moved.1 (λ bytes. refl) tt (ends (heard r2.reader.page) tt)
+  by_cut (Err SinkFailed) short r2 moved ends = ends_at (Err SinkFailed) r2.reader (Some r2.read) moved.0 (λ bytes. refl) tt (ends (heard r2.reader.page) tt)
+  by_cut (Err OutOfMemory) short r2 moved ends = ends_at (Err OutOfMemory) r2.reader (Some r2.read) moved.0 (λ bytes. refl) tt (ends (heard r2.reader.page) tt)
 
   -- where the input has ended, the talk ends
-  by_end : (marked : Bool) (r2 : LineReader) → Reads mid input' r1 r2 None → mid.faults ≤ input'.faults → ((later : List Heard) → IsLater (Ok marked) later → Ended later (Ok marked)) → Talked (Ok marked)
-  by_end marked r2 reads rises ends =
+  by_end : (marked : Bool) (r2 : LineReader) → Reads mid input' r1 r2 None → ((later : List Heard) → IsLater (Ok marked) later → Ended later (Ok marked)) → Talked (Ok marked)
+  by_end marked r2 reads ends =
       let at_end = reads.reader (reads.last refl) in
-      ends_at (Ok marked) r2 None reads rises (λ bytes. refl) at_end.1 (ends (heard r2.page) (ap heard at_end.0))
+      ends_at (Ok marked) r2 None reads (λ bytes. refl) at_end.1 (ends (heard r2.page) (ap heard at_end.0))
 
   -- where no more could be taken of the input, the talk ends
   by_fault : (fault : TakeFault) → TookSome mid input' r1 fault → (fault ≡ take.Failed → HasRisen mid.faults input'.faults) → ((later : List Heard) → IsLater (Err (of_take fault)) later → Ended later (Err (of_take fault)))
@@ -158,7 +158,7 @@ module _ {W : Type 0} (c : Course W) (old new : View) (names : List (List ℕ)) 
       → ((later : List Heard) → IsLater r later → Ended (coming (read_asks r2.read) call ++ later) r) → Talked r
   talk_by r (Ok true) r2 moved after ends = by_cut r after r2 moved ends
   talk_by r (Ok false) r2 moved after ends =
-      subst (λ r. Talked r) (sym after.1) (by_end after.0 r2.reader moved.0 moved.1 (subst (λ r. (later : List Heard) → IsLater r later → Ended later r) after.1 ends))
+      subst (λ r. Talked r) (sym after.1) (by_end after.0 r2.reader moved.0 (subst (λ r. (later : List Heard) → IsLater r later → Ended later r) after.1 ends))
   talk_by r (Err fault) r2 moved after ends =
       subst (λ r. Talked r) (sym after) (by_fault fault moved.0 moved.1 (subst (λ r. (later : List Heard) → IsLater r later → Ended later r) after ends))
 

@@ -13,7 +13,7 @@ use Rattle.mix_script.specs.declared.step.Step.{Step}
 use Rattle.mix_script.specs.declared.answer.Answer.{Answer}
 use Rattle.mix_script.proofs.Answering.{has_fault_push}
 use Rattle.mix_script.proofs.Holding.{hold_none}
-use Rattle.mix_lines.specs.Written.{AreWritten, IsSpent}
+use Rattle.mix_lines.specs.Written.{IsSpent}
 
 -- before any step nothing is asked
 pub spent_start : {V W : Type 0} (With : V → W → Type 0) (cost : NamesOf W → List ℕ → Act → ℕ) (after : NamesOf W → List ℕ → Act → Answer → NamesOf W) (asked : ℕ) (values : NamesOf V) (steps : List Step) → values ≡ no_names

@@ -164,7 +164,7 @@ module _ (Are Cost : List Answer → Type 0) (NamesAt : Naming) (f : Finished) (
   -- lines over a document that is told end on the document's lines
   pub ends_on : (r : Result Bool LinesFault) → EndsBy Are Cost names heard before after r → EndsOn roots NamesAt f names heard before.written after.written r
   ends_on (Ok marked) e = whole marked e
-  ends_on (Err InputFailed) e = whole e.1 e.2
+  ends_on (Err InputFailed) e = whole e.0 e.1
   ends_on (Err SinkFailed) e = within e.1
   ends_on (Err OutOfMemory) (inl w) = between w
   ends_on (Err OutOfMemory) (inr w) = within w

@@ -28,9 +28,9 @@ pub struct Asking<'a, W, R> {
 
 // A request, and the sources' names by their numbers.
 #[derive(Clone, Copy)]
-struct Asked<'a> {
-    request: Request<'a>,
-    names: &'a [Label],
+struct Asked<'r, 'n> {
+    request: Request<'r>,
+    names: &'n [Label],
 }
 
 // Answers a request, by one write at most. True: its answer is a fault line.
@@ -38,7 +38,7 @@ fn answer_request<W: Walker + Drop, S: Sources, K: Sink>(
     alloc: Global,
     s: &mut S,
     session: &mut Session<W>,
-    asked: &Asked<'_>,
+    asked: &Asked<'_, '_>,
     out: &mut K,
 ) -> Result<bool, LinesFault>
     requires session { IsSession (W.means (S.view s.old) session.old.walker) (held session.old.names) }

@@ -71,7 +71,8 @@ answer_request-requires-clause-lets g c =
     let start = (means (view c.args.s.now) c.open-session.result.walker).course in
     let now = (means (view c.requests.s) c.requests.session.walker).course in
     let asks = g.R.Requests.asks c.next.new.self in
-    let come = g.met.R.Requests.after c.args.asking.requests c.args.from.now c.requests.requests c.requests.from c.next.new.self c.next.new.from far.0 far.1 c.requests.invariant.ready c.in_ok-next.ensures.moved in
+    let moved = subst (λ b. g.R.Requests.moved c.requests.requests c.requests.from c.next.new.self c.next.new.from (Ok b)) c.if-branch.true c.in_ok-next.ensures.moved in
+    let come = g.met.R.Requests.after c.args.asking.requests c.args.from.now c.requests.requests c.requests.from c.next.new.self c.next.new.from far.0 far.1 c.requests.invariant.ready moved in
     let all : LetsAll start (steps_in (far.0 ++ asks)) =
     subst (λ w. LetsAll (means (view c.args.s.now) w).course (steps_in (far.0 ++ asks))) (sym c.open-session.ensures.walker) (c.requires.lets c.next.new.self c.next.new.from (far.0 ++ asks) come) in
     let last = lets_later start (steps_in far.0) (steps_in asks) (subst (LetsAll start) (steps_append far.0 asks) all) in
@@ -95,6 +96,7 @@ returns-in_err-fault-clause-answered g c =
     let far = c.requests.invariant.far in
     let course = (means old c.open-session.result.walker).course in
     let keeps = g.met.S.Sources.keeps _ _ c.answer_request.ensures.came in
+    let moved = subst (λ b. g.R.Requests.moved c.requests.requests c.requests.from c.next.new.self c.next.new.from (Ok b)) c.if-branch.true c.in_ok-next.ensures.moved in
     let cut =
     request_cut c.requests.s c.answer_request.new.s c.requests.session c.answer_request.new.session view (λ s session. means (view s) session.walker) (λ session. held session.names) course old names far.0
     (sink c.args.out.now) (sink c.requests.out) (sink c.answer_request.new.out) c.requests.marked far.2 keeps.faults c.current-request.result fault c.in_err-fault.ensures.answered c.requests.invariant.count in
@@ -102,14 +104,14 @@ returns-in_err-fault-clause-answered g c =
     (subst (λ w. AreAnswered come g.R.Requests.moved g.R.Requests.IsReady g.R.Requests.asks (means old w).course old then names c.next.new.from (sink c.args.out.now) (sink c.answer_request.new.out) (Err fault))
     c.open-session.ensures.walker
     (answered_cut come g.R.Requests.moved g.R.Requests.IsReady g.R.Requests.asks course (means now c.requests.session.walker) old now (held c.requests.session.names) names (sink c.args.out.now) (sink c.requests.out)
-    c.requests.marked c.requests.requests c.requests.from c.requests.invariant.ready far.0 far.1 far.2 c.next.new.self c.next.new.from then (sink c.answer_request.new.out) fault _ c.in_ok-next.ensures.moved
+    c.requests.marked c.requests.requests c.requests.from c.requests.invariant.ready far.0 far.1 far.2 c.next.new.self c.next.new.from then (sink c.answer_request.new.out) fault _ moved
     c.current-request.ensures cut.0 cut.1 cut.2))
 
 pub returns-in_err-fault-clause-count : goal.returns-in_err-fault-clause-count
 returns-in_err-fault-clause-count g c = omega (arith, c.requests.invariant.count, c.answer_request.ensures.count)
 
 pub requests-smaller : goal.requests-smaller
-requests-smaller g c = c.in_ok-next.ensures.less refl
+requests-smaller g c = c.in_ok-next.ensures.less (ap Ok c.if-branch.true)
 
 pub requests-preserved : goal.requests-preserved
 requests-preserved g c =
@@ -119,6 +121,7 @@ requests-preserved g c =
     let far = c.requests.invariant.far in
     let asks = g.R.Requests.asks c.next.new.self in
     let keeps = g.met.S.Sources.keeps _ _ c.answer_request.ensures.came in
+    let moved = subst (λ b. g.R.Requests.moved c.requests.requests c.requests.from c.next.new.self c.next.new.from (Ok b)) c.if-branch.true c.in_ok-next.ensures.moved in
     let told =
     request_told c.requests.s c.answer_request.new.s c.requests.session c.answer_request.new.session view (λ s session. means (view s) session.walker) (λ session. held session.names)
     (means (view c.args.s.now) c.open-session.result.walker).course (view c.args.s.now) c.args.asking.names.now far.0 (sink c.args.out.now) (sink c.requests.out) (sink c.answer_request.new.out) c.requests.marked far.2
@@ -126,10 +129,10 @@ requests-preserved g c =
     record {
       came = g.met.S.Sources.after _ _ _ c.requests.invariant.came c.answer_request.ensures.came;
       count = omega (arith, c.requests.invariant.count, c.answer_request.ensures.count);
-      ready = c.in_ok-next.ensures.ready refl;
+      ready = c.in_ok-next.ensures.ready (ap Ok c.if-branch.true);
       far = (
         far.0 ++ asks,
-        g.met.R.Requests.after c.args.asking.requests c.args.from.now c.requests.requests c.requests.from c.next.new.self c.next.new.from far.0 far.1 c.requests.invariant.ready c.in_ok-next.ensures.moved,
+        g.met.R.Requests.after c.args.asking.requests c.args.from.now c.requests.requests c.requests.from c.next.new.self c.next.new.from far.0 far.1 c.requests.invariant.ready moved,
         rw (sym c.current-request.ensures) told,
       );
     }
@@ -150,7 +153,7 @@ returns-clause-answered g c =
     subst (λ w. AreAnswered come g.R.Requests.moved g.R.Requests.IsReady g.R.Requests.asks (means old w).course old now names c.next.new.from (sink c.args.out.now) (sink c.requests.out) (Ok c.requests.marked))
     c.open-session.ensures.walker
     (answered_all come g.R.Requests.moved g.R.Requests.IsReady g.R.Requests.asks (means old c.open-session.result.walker).course (means now c.requests.session.walker) old now (held c.requests.session.names) names
-    (sink c.args.out.now) (sink c.requests.out) c.requests.marked c.requests.requests c.requests.from c.requests.invariant.ready far.0 far.1 far.2 c.next.new.self c.next.new.from c.in_ok-next.ensures.moved)
+    (sink c.args.out.now) (sink c.requests.out) c.requests.marked c.requests.requests c.requests.from c.requests.invariant.ready far.0 far.1 far.2 c.next.new.self c.next.new.from (subst (λ b. g.R.Requests.moved c.requests.requests c.requests.from c.next.new.self c.next.new.from (Ok b)) c.if-branch.false c.in_ok-next.ensures.moved))
 
 pub returns-clause-count : goal.returns-clause-count
 returns-clause-count g c = c.requests.invariant.count

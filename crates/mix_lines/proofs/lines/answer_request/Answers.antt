@@ -3,10 +3,14 @@ use Rattle.mix_script.proofs.Answering.{may_named}
 use Rattle.mix_session.specs.Stepped.{LetsAll}
 use Rattle.mix_lines.specs.Heard.{steps_in}
 use Rattle.mix_lines.specs.Requests.{request_asks}
+use Rattle.mix_lines.specs.declared.requests.Request.TheVariants.{Step}
 use Rattle.mix_lines.proofs.lines.answer_request.Goals as goal
 
 pub step-requires-clause-lets : goal.step-requires-clause-lets
-step-requires-clause-lets g c = c.requires.lets.0
+step-requires-clause-lets g c =
+    let course = (g.W.Walker.means (g.S.Sources.view c.args.s.now) c.args.session.now.walker).course in
+    let lets : LetsAll course (steps_in (request_asks (Step c.in-Step.step))) = subst (λ r. LetsAll course (steps_in (request_asks r))) c.in-Step.is c.requires.lets in
+    lets.0
 
 pub write_line-requires : goal.write_line-requires
 write_line-requires g c =
