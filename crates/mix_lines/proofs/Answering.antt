@@ -1,5 +1,5 @@
 -- A request is answered.
-use Rattle.std.proofs.Common.{◌≡◌, ◌≤◌, ◌∙◌, ℕ, Bool, true, false, ◌||◌, List, [], ◌∷◌, ◌++◌, Result, Ok, Err, refl, ap, sym, subst}
+use Rattle.std.proofs.Common.{◌≡◌, ◌≤◌, ℕ, Bool, true, false, ◌||◌, List, [], ◌∷◌, ◌++◌, Result, Ok, Err, refl, sym, subst}
 use Rattle.mix_base.proofs.Lists.{append_nil}
 use Rattle.mix_io.specs.Contents.{Appends}
 use Rattle.mix_io.specs.Views.{SinkView}

@@ -1,5 +1,5 @@
 -- How requests end that were answered.
-use Rattle.std.proofs.Common.{◌≡◌, ◌∙◌, inl, ℕ, Bool, true, false, List, [], ◌∷◌, ◌++◌, Result, Ok, Err, refl, ap, sym, subst, arith}
+use Rattle.std.proofs.Common.{◌≡◌, ◌∙◌, inl, ℕ, Bool, true, false, List, [], ◌++◌, Result, Ok, Err, refl, ap, sym, subst, arith}
 use Rattle.mix_base.proofs.Lists.{append_nil}
 use Rattle.mix_io.specs.Views.{SinkView}
 use Rattle.mix_io.specs.declared.input.TakeFault.{TakeFault}

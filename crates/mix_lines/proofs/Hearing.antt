@@ -1,10 +1,10 @@
 -- A talk ends as the lines of its input were answered.
-use Rattle.std.proofs.Common.{◌≡◌, ◌∙◌, ◌≤◌, inl, inr, ℕ, Bool, true, false, List, [], ◌∷◌, ◌++◌, Option, Some, None, Result, Ok, Err, refl, ap, sym, subst, arith, length, take, drop, append_assoc, length-append, take-append-drop}
+use Rattle.std.proofs.Common.{◌≡◌, ◌∙◌, ◌≤◌, ℕ, Bool, true, false, List, [], ◌++◌, Option, Some, None, Result, Ok, Err, refl, ap, sym, subst, arith, length, take, drop, append_assoc, length-append, take-append-drop}
 use Rattle.std.proofs.lemmas.List.{length-take-le}
 use Rattle.mix_base.proofs.Lists.{append_nil}
 use Rattle.mix_base.specs.Counts.{HasRisen}
 use Rattle.mix_io.specs.Contents.{Appends}
-use Rattle.mix_io.specs.Input.{InputView, IsAtEnd, Took}
+use Rattle.mix_io.specs.Input.{InputView, Took}
 use Rattle.mix_io.specs.Views.{SinkView}
 use Rattle.mix_io.specs.declared.input.TakeFault.{TakeFault}
 use Rattle.mix_io.specs.declared.input.TakeFault.TheVariants as take

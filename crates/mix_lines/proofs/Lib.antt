@@ -3,13 +3,13 @@ mod Cutting
 mod Ended
 mod Far
 mod Hearing
-pub mod Letting
+mod Letting
 mod Long
 mod Paid
 mod Parts
 mod Paying
 pub mod Script
-pub mod SoFar
+mod SoFar
 mod Stepping
 pub mod Telling
 pub mod Timely

@@ -1,17 +1,12 @@
 -- What is asked for steps, one after another.
-use Rattle.std.proofs.Common.{◌≡◌, ◌∙◌, ℕ, ◌+◌, ◌<◌, ◌≤◌, Bool, false, ◌||◌, List, [], ◌∷◌, ◌++◌, Option, Some, None, refl, ap, sym, subst, arith, length, drop, get_or, append_assoc}
-use Rattle.std.proofs.lemmas.List.{length_push, drop_more}
+use Rattle.std.proofs.Common.{◌≡◌, ℕ, ◌+◌, ◌≤◌, List, [], ◌∷◌, ◌++◌, ap, sym, subst, arith, append_assoc}
 use Rattle.mix_base.proofs.Lists.{append_nil}
-use Rattle.mix_io.specs.Contents.{Appends}
-use Rattle.mix_io.proofs.Written.{one_more}
 use Rattle.mix_script.specs.Names.{NamesOf, no_names}
-use Rattle.mix_script.specs.Answers.{line_of}
-use Rattle.mix_script.specs.Allowed.{answer_lines, is_fault, begun}
+use Rattle.mix_script.specs.Allowed.{begun}
 use Rattle.mix_script.specs.Holding.{HoldBoth}
 use Rattle.mix_script.specs.declared.step.Act.{Act}
 use Rattle.mix_script.specs.declared.step.Step.{Step}
 use Rattle.mix_script.specs.declared.answer.Answer.{Answer}
-use Rattle.mix_script.proofs.Answering.{has_fault_push}
 use Rattle.mix_script.proofs.Holding.{hold_none}
 use Rattle.mix_lines.specs.Written.{IsSpent}
 

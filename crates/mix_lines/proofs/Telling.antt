@@ -5,7 +5,7 @@ use Rattle.mix_io.specs.Contents.{Appends, AppendsPrefix}
 use Rattle.mix_io.specs.Views.{SinkView}
 use Rattle.mix_script.specs.Names.{no_names}
 use Rattle.mix_script.specs.Answers.{line_of}
-use Rattle.mix_script.specs.Transcript.{AreNotes, Finished, IsRight, Names, Naming, answered, transcript}
+use Rattle.mix_script.specs.Transcript.{AreNotes, Finished, IsRight, Names, Naming, answered}
 use Rattle.mix_script.specs.Allowed.{AreAnswers, note_of, notes_of}
 use Rattle.mix_script.specs.Finished.{AreOf}
 use Rattle.mix_script.specs.declared.step.Step.{Step}

@@ -1,5 +1,5 @@
 -- Over sources that didn't fail, the lines of plain steps are the transcript without notes.
-use Rattle.std.proofs.Common.{◌≡◌, ◌∙◌, inl, inr, ◌+◌, ◌^◌, ◌<◌, ℕ, Bool, false, List, [], ◌∷◌, ◌++◌, Option, Result, Ok, Err, ap, sym, subst, arith, length, map, take, append_assoc}
+use Rattle.std.proofs.Common.{◌≡◌, ◌∙◌, inl, inr, ◌+◌, ◌^◌, ◌<◌, ℕ, Bool, false, List, [], ◌∷◌, ◌++◌, Result, Ok, Err, ap, sym, subst, arith, length, map, take, append_assoc}
 use Rattle.mix_base.proofs.Lists.{append_nil, take_append}
 use Rattle.mix_tree.specs.Forest.{LabelledTree}
 use Rattle.mix_io.specs.Contents.{Appends, AppendsPrefix}

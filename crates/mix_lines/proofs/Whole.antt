@@ -1,5 +1,5 @@
 -- The whole lines of a text.
-use Rattle.std.proofs.Common.{◌≡◌, ◌⊎◌, ◌∙◌, inl, inr, ℕ, Bool, true, false, cond, ◌==◌, ◌||◌, List, [], ◌∷◌, ◌++◌, refl, ap, sym, append_assoc}
+use Rattle.std.proofs.Common.{◌≡◌, ◌∙◌, inl, inr, ℕ, Bool, true, false, cond, ◌==◌, ◌||◌, List, [], ◌∷◌, ◌++◌, refl, ap, sym, append_assoc}
 use Rattle.mix_lines.specs.Heard.{has_lf, whole_lines}
 use Rattle.mix_lines.specs.Reading.{AreWhole, HasNoLf}
 

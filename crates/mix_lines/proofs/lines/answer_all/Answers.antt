@@ -1,10 +1,10 @@
-use Rattle.std.proofs.Common.{◌≡◌, ◌∙◌, ◌++◌, List, [], Ok, Err, refl, ap, arith, subst, sym}
+use Rattle.std.proofs.Common.{◌++◌, [], Ok, Err, ap, arith, subst, sym}
 use Rattle.std.proofs.lemmas.Result.{err_from_is_err_and}
 use Rattle.mix_script.specs.Names.{held}
 use Rattle.mix_session.specs.Stepped.{LetsAll}
 use Rattle.mix_lines.specs.Answered.{AreAnswered}
 use Rattle.mix_lines.specs.Cuts.{of_take}
-use Rattle.mix_lines.specs.Heard.{Heard, steps_in}
+use Rattle.mix_lines.specs.Heard.{steps_in}
 use Rattle.mix_lines.proofs.Answering.{request_cut, request_told}
 use Rattle.mix_lines.proofs.Ended.{answered_all, answered_cut, answered_failed}
 use Rattle.mix_lines.proofs.Far.{far_start}

@@ -1,4 +1,4 @@
-use Rattle.std.proofs.Common.{◌<◌, ℕ, length, subst}
+use Rattle.std.proofs.Common.{length, subst}
 use Rattle.mix_script.proofs.Answering.{may_named}
 use Rattle.mix_session.specs.Stepped.{LetsAll}
 use Rattle.mix_lines.specs.Heard.{steps_in}

@@ -1,4 +1,4 @@
-use Rattle.std.proofs.Common.{refl, subst, sym}
+use Rattle.std.proofs.Common.{subst, sym}
 use Rattle.lazy_value.specs.Named.{state_of}
 use Rattle.mix_session.specs.Walks.{plan_course}
 use Rattle.mix_script.specs.Transcript.{IsRight}

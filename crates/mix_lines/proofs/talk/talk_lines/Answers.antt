@@ -1,4 +1,3 @@
-use Rattle.std.proofs.Common.{arith, refl}
 use Rattle.std.proofs.lemmas.Result.{err_from_is_err_and}
 use Rattle.lazy_value.specs.Named.{state_of}
 use Rattle.mix_session.specs.Walks.{plan_course}
