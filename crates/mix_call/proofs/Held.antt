@@ -1,11 +1,10 @@
 -- How a talk is held, or refused.
-use Rattle.std.proofs.Common.{◌≡◌, inl, inr, ℕ, Bool, List, Some, Result, Ok, Err, refl, string_bytes}
+use Rattle.std.proofs.Common.{◌≡◌, inl, inr, ℕ, Bool, List, Some, Result, refl, string_bytes}
 use Rattle.mix_io.specs.Input.{InputView}
 use Rattle.mix_io.specs.Views.{FilesView, SinkView}
-use Rattle.mix_talk.specs.Ends.{heard_by}
-use Rattle.mix_talk.specs.Heard.{Heard, steps_in}
-use Rattle.mix_talk.specs.declared.fault.TalkFault.{TalkFault}
-use Rattle.mix_talk.specs.declared.fault.TalkFault.TheVariants.{InputFailed, SinkFailed, OutOfMemory}
+use Rattle.mix_lines.specs.Talks.{heard_by}
+use Rattle.mix_lines.specs.Heard.{Heard, steps_in}
+use Rattle.mix_lines.specs.declared.fault.LinesFault.{LinesFault}
 use Rattle.mix_reach.specs.Stores.{StoresView}
 use Rattle.plan_core.specs.Events.{VisitedAreMatches, visited}
 use Rattle.plan_core.specs.Plans.{PlanValue, document as plan_document}
@@ -19,9 +18,10 @@ use Rattle.mix_top.specs.Outside.{outside}
 use Rattle.mix_top.specs.Running.{question_of}
 use Rattle.mix_place.specs.declared.refusal.Refusal.{Refusal}
 use Rattle.mix_place.specs.declared.refusal.Stop.TheVariants as stop
+use Rattle.mix_top.proofs.LinesEnd.{heard_weaker}
 use Rattle.mix_top.proofs.RunCourse.{view_question}
 use Rattle.mix_top.proofs.StopLaws.{refusal_ends}
-use Rattle.mix_call.specs.Ends.{EndsSo, TalkEnds, TalkedAlong, talk_status}
+use Rattle.mix_call.specs.Ends.{TalkEnds, TalkedAlong, talk_status}
 use Rattle.mix_call.specs.Over.{IsReady, IsReadyStop, TalkOver, placed}
 use Rattle.mix_call.specs.Talks.{IsTalkRefused, Talks}
 use Rattle.mix_call.specs.declared.talking.Ready.{Ready}
@@ -30,14 +30,6 @@ use Rattle.mix_call.specs.declared.talking.Ready.{Ready}
 abbrev Course : Type 1
 Course = List Heard → SinkView → SinkView → ℕ → List ℕ → Type 0
 
--- a talk that ends in one course ends in any course that has its lines
-ends_weaker : (C D : SinkView → SinkView → ℕ → List ℕ → Type 0) (input input' : InputView) (before after : SinkView)
-    → ((status : ℕ) (lines : List ℕ) → C before after status lines → D before after status lines) → (end : Result Bool TalkFault) → EndsSo C input input' before after end → EndsSo D input input' before after end
-ends_weaker C D input input' before after w (Ok marked) h = (h.0, (h.1.0, w _ h.1.0 h.1.1, h.1.2))
-ends_weaker C D input input' before after w (Err InputFailed) h = (h.0, h.1, (h.2.0, w h.1 h.2.0 h.2.1, h.2.2))
-ends_weaker C D input input' before after w (Err SinkFailed) h = (h.0, (h.1.0, h.1.1, w h.1.0 h.1.1 h.1.2, h.1.3))
-ends_weaker C D input input' before after w (Err OutOfMemory) h = (h.0, h.1, w h.0 h.1 h.2, h.3)
-
 module _ (old new : FilesView) (stores stores' : StoresView) (view catalog : List ℕ) (visits : VisitedAreMatches)
     (has : (p : PlanValue) → IsValid p → (d : Documents) → (t : LabelledTree) × (plan_document (visited d) p.ops ≡ Some t)) (input input' : InputView) (before after : SinkView) where
   -- the talk of a run ends with this status
@@ -45,13 +37,13 @@ module _ (old new : FilesView) (stores stores' : StoresView) (view catalog : Lis
   Ended status = TalkEnds (outside old stores) (outside new stores') view catalog input input' before after status
 
   -- where a talk over what was made ready was held, the talk ends
-  pub held : (ready : Ready) → IsReady old view catalog ready → (end : Result Bool TalkFault)
+  pub held : (ready : Ready) → IsReady old view catalog ready → (end : Result Bool LinesFault)
       → (fills : ℕ) × TalkedAlong (names_of_sources ready.basis.catalog) (TalkOver fills stores stores' (placed ready) ready.basis) input input' before after end → (status : ℕ) → status ≡ talk_status end → Ended status
   held ready is end h status same =
       let Over : Course = TalkOver h.0 stores stores' (placed ready) ready.basis in
       let All : Course = Talks (outside old stores) (outside new stores') view catalog in
       let asked = heard_by h.1.bytes end in
-      inr (ready.basis.catalog, is.catalog_is, end, same, record { bytes = h.1.bytes; took = h.1.took; timely = h.1.timely; ends = ends_weaker (Over asked) (All asked) input input' before after (talks asked h.0) end h.1.ends })
+      inr (ready.basis.catalog, is.catalog_is, end, same, record { bytes = h.1.bytes; took = h.1.took; timely = h.1.timely; input_ends = h.1.input_ends; ends = heard_weaker (Over asked before after) (All asked before after) before after (talks asked h.0) end h.1.ends })
     where
       talks : (asked : List Heard) (fills status : ℕ) (lines : List ℕ) → TalkOver fills stores stores' (placed ready) ready.basis asked before after status lines
           → Talks (outside old stores) (outside new stores') view catalog asked before after status lines

@@ -1,39 +1,32 @@
 -- How a talk ends, and what the words of the top call come to.
 use Rattle.std.specs.Prelude.{◌≡◌, ◌⊎◌, ℕ, Bool, cond, List, [], ◌∷◌, Option, Some, None, Result, Ok, Err, codes}
 use Rattle.std.specs.Str.{bytes_eq}
-use Rattle.mix_base.specs.Counts.{HasRisen}
-use Rattle.mix_io.specs.Input.{InputView, IsAtEnd, Took}
+use Rattle.mix_io.specs.Input.{InputView, Took}
 use Rattle.mix_io.specs.Views.{SinkView}
 use Rattle.mix_catalog.specs.declared.source.SourceSpec.{SourceSpec}
-use Rattle.mix_talk.specs.Ends.{IsTakenInTime, heard_by}
-use Rattle.mix_talk.specs.Heard.{Heard}
-use Rattle.mix_talk.specs.declared.fault.TalkFault.{TalkFault}
-use Rattle.mix_talk.specs.declared.fault.TalkFault.TheVariants.{InputFailed, SinkFailed, OutOfMemory}
+use Rattle.mix_lines.specs.Talks.{IsInputLeft, IsTakenInTime, heard_by}
+use Rattle.mix_lines.specs.Heard.{Heard}
+use Rattle.mix_lines.specs.declared.fault.LinesFault.{LinesFault}
+use Rattle.mix_lines.specs.declared.fault.LinesFault.TheVariants.{InputFailed, SinkFailed, OutOfMemory}
 use Rattle.mix_top.specs.Commands.{command_of}
 use Rattle.xmas_read.specs.Results.{names_of_sources}
 use Rattle.mix_place.specs.Files.{IsCatalogFile}
 use Rattle.mix_top.specs.Course.{IsCourse}
-use Rattle.mix_top.specs.Ends.{Ends, EndsAlong, TookPrefix}
+use Rattle.mix_top.specs.Ends.{Ends, EndsAlong}
 use Rattle.mix_top.specs.Outside.{Outside}
-use Rattle.mix_top.specs.Stops.{IsDoneAlong, IsDoneWith, outcome_of, outcome_status}
+use Rattle.mix_top.specs.Stops.{EndsAsHeard, outcome_of, outcome_status}
 use Rattle.mix_call.specs.Talks.{IsTalkRefused, Talks}
 
--- how lines of a given course end: all were written, the input at its end or failed; or the sink failed or memory ran out, after a prefix of them
-abbrev pub EndsSo : (SinkView → SinkView → ℕ → List ℕ → Type 0) → InputView → InputView → SinkView → SinkView → Result Bool TalkFault → Type 0
-EndsSo Course input input' sink sink' (Ok marked) = IsAtEnd input' × IsDoneAlong Course sink sink' (outcome_of marked)
-EndsSo Course input input' sink sink' (Err InputFailed) = HasRisen input.faults input'.faults × (status : ℕ) × IsDoneWith (Course sink sink') status sink sink'
-EndsSo Course input input' sink sink' (Err SinkFailed) = HasRisen sink.faults sink'.faults × TookPrefix (Course sink sink') sink sink'
-EndsSo Course input input' sink sink' (Err OutOfMemory) = TookPrefix (Course sink sink') sink sink'
-
 -- bytes were taken of an input in time, and the lines end whose course is given by what these bytes ask for; sources have given names
-pub record TalkedAlong (names : List (List ℕ)) (Course : List Heard → SinkView → SinkView → ℕ → List ℕ → Type 0) (input input' : InputView) (sink sink' : SinkView) (end : Result Bool TalkFault) : Type 0 where
+pub record TalkedAlong (names : List (List ℕ)) (Course : List Heard → SinkView → SinkView → ℕ → List ℕ → Type 0) (input input' : InputView) (sink sink' : SinkView) (end : Result Bool LinesFault) : Type 0 where
   pub bytes : List ℕ
   pub took : Took input input' bytes
   pub timely : IsTakenInTime names bytes sink.written sink'.written
-  pub ends : EndsSo (Course (heard_by bytes end)) input input' sink sink' end
+  pub input_ends : IsInputLeft input input' end
+  pub ends : EndsAsHeard (Course (heard_by bytes end) sink sink') sink sink' end
 
 -- the status of a talk, by how it ended
-abbrev pub talk_status : Result Bool TalkFault → ℕ
+abbrev pub talk_status : Result Bool LinesFault → ℕ
 talk_status (Ok marked) = outcome_status (outcome_of marked)
 talk_status (Err SinkFailed) = 5
 talk_status (Err OutOfMemory) = 6
@@ -42,7 +35,7 @@ talk_status (Err InputFailed) = 10
 -- a talk whose files were all accepted was held over the sources of its catalog, and its status says how it ended
 abbrev pub IsHeld : Outside → Outside → List ℕ → List ℕ → InputView → InputView → SinkView → SinkView → ℕ → Type 0
 IsHeld before after view catalog input input' sink sink' status =
-    (sources : List SourceSpec) × IsCatalogFile before.files catalog sources × (end : Result Bool TalkFault) × (status ≡ talk_status end)
+    (sources : List SourceSpec) × IsCatalogFile before.files catalog sources × (end : Result Bool LinesFault) × (status ≡ talk_status end)
     × TalkedAlong (names_of_sources sources) (Talks before after view catalog) input input' sink sink' end
 
 -- a talk ends: a file is refused, and nothing is taken of the input or asked of stores; or it was held

@@ -4,21 +4,21 @@ use Rattle.mix_io.specs.Input.{InputView}
 use Rattle.mix_io.specs.Views.{FilesView, SinkView}
 use Rattle.mix_reach.specs.Reach.{Reaching}
 use Rattle.mix_reach.specs.Stores.{StoresView, stores_of}
-use Rattle.mix_talk.specs.Heard.{Heard, steps_in}
-use Rattle.mix_talk.specs.Ends.{HeardEnds}
-use Rattle.mix_talk.specs.declared.fault.TalkFault.TheVariants.{OutOfMemory}
+use Rattle.mix_lines.specs.Heard.{Heard, steps_in}
+use Rattle.mix_lines.specs.Talks.{HeardEnds}
+use Rattle.mix_lines.specs.declared.fault.LinesFault.TheVariants.{OutOfMemory}
 use Rattle.lxp_core.specs.View.{View}
 use Rattle.lazy_plan.specs.Bench.{ops_of}
 use Rattle.lazy_value.specs.Named.{state_of}
 use Rattle.lazy_value.specs.declared.mediator.Mediator.{Mediator}
 use Rattle.mix_session.specs.Walks.{plan_course}
 use Rattle.plan_core.specs.declared.plan.Plan.{Plan}
-use Rattle.mix_talk.specs.declared.fault.TalkFault.{TalkFault}
+use Rattle.mix_lines.specs.declared.fault.LinesFault.{LinesFault}
 use Rattle.mix_script.specs.Transcript.{Finished}
 use Rattle.plan_core.specs.PlanMade.{plan_value}
 use Rattle.plan_evidence.specs.Held.{UsesHeld}
 use Rattle.xmas_read.specs.Results.{names_of_sources}
-use Rattle.mix_top.specs.Answered.{IsAnsweredIn}
+use Rattle.mix_top.specs.Answered.{IsHeardAnswered}
 use Rattle.mix_place.specs.Files.{IsCatalogFile}
 use Rattle.mix_place.specs.Placed.{IsSourceRefused, placed as placed_by, ArePlaced, Placed}
 use Rattle.mix_top.specs.Course.{by_view}
@@ -28,7 +28,6 @@ use Rattle.mix_place.specs.Plans.{IsPlanOver, IsViewPlan}
 use Rattle.mix_top.specs.Running.{IsStopAfter, all_documents, placed_of, question_of}
 use Rattle.mix_place.specs.declared.refusal.Stop.{Stop}
 use Rattle.mix_call.specs.Ends.{TalkedAlong}
-use Rattle.mix_call.specs.Talks.{in_talk}
 use Rattle.mix_call.specs.declared.talking.Basis.{Basis}
 use Rattle.mix_call.specs.declared.talking.Ready.{Ready}
 
@@ -54,21 +53,21 @@ abbrev pub TalkOver : ℕ → StoresView → StoresView → Placed → Basis →
 TalkOver fills before after place basis asked sink sink' status lines =
     (f : Finished) × IsPlanDocument (all_documents before place) (plan_value basis.plan).ops f.tree
     × (let q = question_of before place basis.catalog (plan_value basis.plan).ops (steps_in asked) f in
-    AreNamed q × IsAnsweredIn (in_talk asked q) before after q fills sink sink' status lines)
+    AreNamed q × IsHeardAnswered asked before after q fills sink sink' status lines)
 
 -- how a talk ends over sources that are reached and views over them, by all their fills, where no more pages were asked than fills, the count of which is one of 64 bits
-abbrev pub IsReachedEnd : Reaching → Reaching → List (Option Plan) → Basis → InputView → InputView → SinkView → SinkView → Result Bool TalkFault → Type 0
+abbrev pub IsReachedEnd : Reaching → Reaching → List (Option Plan) → Basis → InputView → InputView → SinkView → SinkView → Result Bool LinesFault → Type 0
 IsReachedEnd old new views basis input input' sink sink' end =
     new.mounted.tables.pages ≤ old.mounted.tables.pages + new.fills → new.fills ≤ 2 ^ 64 - 1
     → TalkedAlong (names_of_sources basis.catalog) (TalkOver new.fills (stores_of old) (stores_of new) (placed_of old views) basis) input input' sink sink' end
 
 -- a mediator of a plan over sources was talked to, and that ended
-pub record IsHeard (old new : View) (basis : Basis) (input input' : InputView) (sink sink' : SinkView) (end : Result Bool TalkFault) : Type 0 where
+pub record IsHeard (old new : View) (basis : Basis) (input input' : InputView) (sink sink' : SinkView) (end : Result Bool LinesFault) : Type 0 where
   pub mediator : Mediator
   pub ops_are : ops_of (state_of old mediator) ≡ (plan_value basis.plan).ops
   pub ends : HeardEnds (plan_course (state_of old mediator)) old new (names_of_sources basis.catalog) input input' sink sink' end
 
 -- how a talk ends over the sources of its catalog: a mediator was talked to; or memory ran out before anything was taken, and what is given is so
-abbrev pub IsEnd : Type 0 → View → View → Basis → InputView → InputView → SinkView → SinkView → Result Bool TalkFault → Type 0
+abbrev pub IsEnd : Type 0 → View → View → Basis → InputView → InputView → SinkView → SinkView → Result Bool LinesFault → Type 0
 IsEnd Unbegun old new basis input input' sink sink' end =
     IsHeard old new basis input input' sink sink' end ⊎ ((end ≡ Err OutOfMemory) × (input' ≡ input) × (sink' ≡ sink) × Unbegun)

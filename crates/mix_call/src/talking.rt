@@ -22,10 +22,10 @@ use lazy_walk::valid_plans_have_documents;
 use lxp_core::Sources;
 use mix_catalog::Catalog;
 use mix_io::{Files, Input, Sink, Streams};
+use mix_lines::{LinesFault, talk_lines};
 use mix_mount::Mounted;
 use mix_place::{Placement, Stop, load_catalog, load_view, place_sources, source_names};
 use mix_reach::{Reached, Stores};
-use mix_talk::{TalkFault, talk_lines};
 use mix_top::{plans_are_finished, refuse};
 use plan_core::{Plan, visited_are_matches};
 use std::alloc::Global;
@@ -77,7 +77,7 @@ fn talk_over<S: Sources, I: Input, K: Sink>(
     basis: Basis,
     sources: &mut S,
     streams: &mut Streams<I, K>,
-) -> Result<bool, TalkFault>
+) -> Result<bool, LinesFault>
     requires over { IsPlanOver basis.catalog (plan_value basis.plan) }
     requires uses { UsesHeld (plan_value basis.plan).ops }
     requires number { (S.view sources.old).count ≡ length basis.catalog }
@@ -100,7 +100,7 @@ fn talk_stacked<T: Tables, R: Fars, I: Input, K: Sink>(
     views: Vec<Option<Plan>>,
     sources: Reached<T, R>,
     streams: &mut Streams<I, K>,
-) -> (Result<bool, TalkFault>, Reached<T, R>)
+) -> (Result<bool, LinesFault>, Reached<T, R>)
     requires over { IsPlanOver basis.catalog (plan_value basis.plan) }
     requires uses { UsesHeld (plan_value basis.plan).ops }
     requires placed { (files : FilesView)
@@ -119,7 +119,7 @@ fn talk_stacked<T: Tables, R: Fars, I: Input, K: Sink>(
             let end = talk_over(alloc, basis, &mut stack, streams);
             (end, stack.into_base())
         }
-        Err(refused) => (Err(TalkFault::OutOfMemory), refused.base),
+        Err(refused) => (Err(LinesFault::OutOfMemory), refused.base),
     }
 }
 
@@ -129,7 +129,7 @@ fn talk_ready<T: Tables, R: Fars, I: Input, K: Sink>(
     ready: Ready,
     stores: Stores<T, R>,
     streams: &mut Streams<I, K>,
-) -> (Result<bool, TalkFault>, Stores<T, R>)
+) -> (Result<bool, LinesFault>, Stores<T, R>)
     requires over { IsPlanOver ready.basis.catalog (plan_value ready.basis.plan) }
     requires uses { UsesHeld (plan_value ready.basis.plan).ops }
     requires placed { let basis = ready.basis in
@@ -156,15 +156,15 @@ fn talk_ready<T: Tables, R: Fars, I: Input, K: Sink>(
 }
 
 // The exit status of a talk, by how it ended.
-fn status_of(end: Result<bool, TalkFault>) -> u8
+fn status_of(end: Result<bool, LinesFault>) -> u8
     ensures { result ≡ talk_status end }
 {
     match end {
         Ok(false) => 0,
         Ok(true) => 1,
-        Err(TalkFault::SinkFailed) => 5,
-        Err(TalkFault::OutOfMemory) => 6,
-        Err(TalkFault::InputFailed) => 10,
+        Err(LinesFault::SinkFailed) => 5,
+        Err(LinesFault::OutOfMemory) => 6,
+        Err(LinesFault::InputFailed) => 10,
     }
 }
 

@@ -1,5 +1,5 @@
 -- What a course that goes on, or any course, lets be answered.
-use Rattle.std.proofs.Common.{◌≡◌, ◌<◌, ℕ, zero, suc, List, [], ◌∷◌, IsTrue, arith, length, get_or, sym, subst}
+use Rattle.std.proofs.Common.{List, [], ◌∷◌, ◌++◌, IsTrue}
 use Rattle.mix_script.specs.Steps.{ArePlain, is_plain}
 use Rattle.mix_script.specs.declared.step.Act.{Act}
 use Rattle.mix_script.specs.declared.step.Act.TheVariants.{Root, Move, Select, Fetch, Print, Id, At}
@@ -18,12 +18,16 @@ module _ {W : Type 0} (c d : Course W) (goes : GoesOn c d) where
   lets_on (Id from) lets = goes.tells lets
   lets_on (At name node) lets = goes.follows lets
 
+  -- steps that a course lets be answered are let be answered where it goes on
+  pub lets_all_on : (steps : List Step) → LetsAll c steps → LetsAll d steps
+  lets_all_on [] lets = tt
+  lets_all_on (step ∷ steps) lets = (lets_on step.act lets.0, lets_all_on steps lets.1)
+
 module _ {W : Type 0} (c : Course W) where
-  -- where each step is let be answered, the one at an index is
-  pub lets_at : (steps : List Step) (i : ℕ) (step : Step) → i < length steps → step ≡ get_or steps i step → LetsAll c steps → Lets c step.act
-  lets_at [] i step inside is lets = absurd (omega (arith, inside))
-  lets_at (first ∷ steps) zero step inside is lets = let same : step ≡ first = is in subst (λ s. Lets c s.act) (sym same) lets.0
-  lets_at (first ∷ steps) (suc i) step inside is lets = lets_at steps i step (omega (arith, inside)) is lets.1
+  -- where steps and those after them are let be answered, those after them are
+  pub lets_later : (first later : List Step) → LetsAll c (first ++ later) → LetsAll c later
+  lets_later [] later lets = lets
+  lets_later (step ∷ first) later lets = lets_later first later lets.1
 
   -- a course that tells texts and follows them lets each act be answered
   pub lets_any : (act : Act) → c.Tells → c.Follows → Lets c act
@@ -34,6 +38,11 @@ module _ {W : Type 0} (c : Course W) where
   lets_any (Print from) tells follows = tt
   lets_any (Id from) tells follows = tells
   lets_any (At name node) tells follows = follows
+
+  -- a course that tells texts and follows them lets all steps be answered
+  pub lets_any_steps : (steps : List Step) → c.Tells → c.Follows → LetsAll c steps
+  lets_any_steps [] tells follows = tt
+  lets_any_steps (step ∷ steps) tells follows = (lets_any step.act tells follows, lets_any_steps steps tells follows)
 
   -- each course lets an act be answered that is of none of the forms of identifiers
   lets_act : (act : Act) → IsTrue (is_plain act) → Lets c act

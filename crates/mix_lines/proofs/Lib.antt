@@ -1,9 +1,17 @@
-mod Ending
-pub mod Letting
+mod Answering
+mod Cutting
+mod Ended
+mod Far
+mod Hearing
+mod Letting
+mod Long
 mod Paid
+mod Parts
 mod Paying
-mod Running
-pub mod SoFar
+pub mod Script
+mod SoFar
 mod Stepping
 pub mod Telling
+pub mod Timely
 pub mod Unmarked
+mod Whole

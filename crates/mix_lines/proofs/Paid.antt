@@ -18,7 +18,7 @@ use Rattle.mix_session.specs.Held.{HoldPlaces}
 use Rattle.mix_session.specs.Stepped.{IsLedTo, NamesGiven, owed_before, tree_toll}
 use Rattle.mix_session.specs.Tolls.{toll_from}
 use Rattle.mix_session.proofs.Walking.{goes_on_twice}
-use Rattle.mix_lines.specs.Lines.{charge_named}
+use Rattle.mix_lines.specs.Ends.{charge_named}
 use Rattle.mix_lines.specs.Written.{AreAt, IsAmong, IsHeldFor, IsPaidSoFar, sum_over}
 use Rattle.mix_lines.proofs.Paying.{given_both, held_given, still_at, owed_less, still_held, before_sum, before_charge, before_paid}
 

@@ -1,11 +1,10 @@
 -- The answers to the first steps on a course, as they become more.
-use Rattle.std.proofs.Common.{◌≡◌, ◌+◌, ◌<◌, ◌≤◌, ℕ, Bool, true, false, List, [], ◌∷◌, ◌++◌, Option, Some, None, Result, sym, subst, arith, append_assoc}
+use Rattle.std.proofs.Common.{◌≡◌, ◌+◌, ◌≤◌, ℕ, Bool, true, false, List, [], ◌∷◌, ◌++◌, Option, Some, None, Result, sym, subst, arith, append_assoc}
 use Rattle.std.specs.declared.alloc.AllocError.{AllocError}
 use Rattle.mix_base.proofs.Lists.{append_nil}
 use Rattle.lxp_core.specs.View.{View}
 use Rattle.mix_script.specs.Names.{NamesOf, no_names}
 use Rattle.mix_script.specs.Trails.{Trail, TakeOneWay, names_on}
-use Rattle.mix_script.specs.Answers.{IsNamed}
 use Rattle.mix_script.specs.Transcript.{Finished, IsRight, IsRightFor, answered, names_after}
 use Rattle.mix_script.specs.Allowed.{MayFind, MayFindRoot, MayFollow, MayPrint, WhereHeld, MayAnswer, AreAnswers, nodes_after, note_of}
 use Rattle.mix_script.specs.Finished.{AreOf}
@@ -15,7 +14,7 @@ use Rattle.mix_script.specs.declared.step.Act.TheVariants.{Root, Move, Select, F
 use Rattle.mix_script.specs.declared.step.Step.{Step}
 use Rattle.mix_script.specs.declared.answer.Answer.{Answer}
 use Rattle.mix_script.specs.declared.answer.Answer.TheVariants as answer
-use Rattle.mix_script.proofs.Answering.{faults_push, may_named}
+use Rattle.mix_script.proofs.Answering.{faults_push}
 use Rattle.mix_script.proofs.Holding.{hold_none}
 use Rattle.mix_script.proofs.Namings.{right_for_same, told_more}
 use Rattle.mix_session.specs.Meaning.{Course, Meaning}
@@ -23,7 +22,7 @@ use Rattle.mix_session.specs.Held.{HoldNodes, HoldTold}
 use Rattle.mix_session.specs.Stepped.{IsStep, NamesGiven, Stepped, act_toll, owed_before, tree_toll}
 use Rattle.mix_session.proofs.TollLess.{act_toll_less, tree_toll_less}
 use Rattle.mix_session.proofs.Walking.{goes_on_twice, goes_on_same}
-use Rattle.mix_lines.specs.Lines.{IsRun, IsLazy}
+use Rattle.mix_lines.specs.Ends.{IsRun, IsLazy}
 use Rattle.mix_lines.specs.Written.{IsOnTree, IsPaidSoFar, IsSoFar}
 use Rattle.mix_lines.proofs.Paid.{paid_start, paid_begun, paid_next, paid_whole}
 use Rattle.mix_lines.proofs.Paying.{held_places}
@@ -126,12 +125,6 @@ so_far_lazy c m old now values steps later answers so = record {
   ways = λ ways tolls. spent_whole m.IsTold (act_toll c) (names_on c.trail) old.fills now.fills values steps later answers (so.spent ways tolls);
   tree = λ tolls f one right. paid_whole c m f old.fills now.fills values steps later answers (so.spent_on tolls f one right);
 }
-
--- the source that an answer names has a name
-pub so_far_named : {V W : Type 0} (c : Course W) (m m' : Meaning V W) (old v v' : View) (values values' : NamesOf V) (count : ℕ) (steps : List Step) (step : Step) (later : List Step) (answers : List Answer)
-    → IsSoFar c m old v values steps (step ∷ later) answers → (a : Answer) → IsStep m m' v.faults v'.faults values values' step.client step.act a → ((s : ℕ) → c.MayFail s → s < count) → IsNamed count a
-so_far_named c m m' old v v' values values' count steps step later answers so a is named =
-    may_named m.course.roots m.course.MayFail count so.nodes step.client step.act a (λ s may. named s (so.course.may s may)) (is.allowed so.nodes so.hold).0
 
 module _ {V W : Type 0} (c : Course W) (m m' : Meaning V W) (old v v' : View) (values values' : NamesOf V) (steps : List Step) (step : Step) (later : List Step) (answers : List Answer)
     (so : IsSoFar c m old v values steps (step ∷ later) answers) (rises : (s : ℕ) → v.faults s ≤ v'.faults s) (r : Result Answer AllocError) (done : Stepped m m' v v' values values' step.client step.act r) where

@@ -1,4 +1,13 @@
+pub mod Answered
 pub mod Cuts
+pub mod Ends
+pub mod Heard
 pub mod Lines
+pub mod Pages
+pub mod Reading
+pub mod ReadingLaws
+pub mod Requests
+pub mod Steps
+pub mod Talks
 pub mod Told
 pub mod Written

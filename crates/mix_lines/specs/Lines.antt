@@ -1,74 +1,30 @@
--- How the lines of answers end.
-use Rattle.std.specs.Prelude.{◌≡◌, ◌⊎◌, ℕ, ◌+◌, ◌≤◌, Bool, List, [], ◌∷◌, ◌++◌, length, take, Result, Ok, Err}
-use Rattle.mix_base.specs.Counts.{HasRisen, HasRisenBy}
-use Rattle.node_text.specs.Node.{NodeValue}
-use Rattle.mix_io.specs.Views.{SinkView}
-use Rattle.mix_io.specs.Contents.{Appends}
+-- The lines that answer what was heard.
+use Rattle.std.specs.Prelude.{ℕ, List, [], ◌∷◌, ◌++◌, codes}
 use Rattle.mix_script.specs.Names.{no_names}
-use Rattle.lxp_core.specs.View.{View}
-use Rattle.mix_script.specs.Trails.{TakeOneWay, names_on}
-use Rattle.mix_script.specs.Transcript.{Finished, IsRight, names_after}
-use Rattle.mix_script.specs.Allowed.{AreAnswers, answer_lines, has_fault, faults_of, begun, walks_owed}
-use Rattle.mix_session.specs.Meaning.{Course}
-use Rattle.mix_session.specs.Stepped.{act_toll, tree_toll}
-use Rattle.mix_session.specs.Tolls.{toll_from}
-use Rattle.mix_script.specs.Finished.{AreOf}
-use Rattle.mix_script.specs.declared.step.Step.{Step}
+use Rattle.mix_script.specs.Answers.{line_of}
+use Rattle.mix_script.specs.Transcript.{Finished, Names, Note, answered, first_note, later_notes}
 use Rattle.mix_script.specs.declared.answer.Answer.{Answer}
-use Rattle.mix_lines.specs.declared.fault.LinesFault.{LinesFault}
-use Rattle.mix_lines.specs.declared.fault.LinesFault.TheVariants.{SinkFailed, OutOfMemory}
+use Rattle.mix_lines.specs.Heard.{Heard, step, no_form}
 
--- what the walk to the node may cost that a text names, by what it says; nothing where it names none
-abbrev pub charge_named : {W : Type 0} → Course W → Finished → NodeValue → ℕ
-charge_named c f node = toll_from c.charge (f.named node)
+-- the line that answers a line of no form
+abbrev pub no_form_line : List ℕ
+no_form_line = codes "no form\n"
 
--- answers to the first steps on a course: each is one that its step may have; on a finished document that is the course's and
--- says the right place of each text, each is the document's under the note that it shows; and the count of each source's
--- faults rose by as many as there are faults of it
-pub record IsRun {W : Type 0} (c : Course W) (faults faults' : ℕ → ℕ) (steps : List Step) (answers : List Answer) : Type 0 where
-  pub allowed : AreAnswers c.roots c.MayFail no_names answers steps
-  pub told : (f : Finished) → c.IsDocument f.tree → IsRight c.NamesAt f steps → AreOf c.NamesAt f no_names answers steps
-  pub counted : (s : ℕ) → HasRisenBy (faults_of s answers) (faults s) (faults' s)
+-- the lines that tell answers to the first of the steps that were heard, and what had no form before a step without an answer
+abbrev pub spoken : List (List ℕ) → List Heard → List Answer → List ℕ
+spoken names [] answers = []
+spoken names (no_form ∷ heard) answers = no_form_line ++ spoken names heard answers
+spoken names (step s ∷ heard) [] = []
+spoken names (step s ∷ heard) (a ∷ answers) = line_of names s.client a ++ spoken names heard answers
 
--- no more fills were asked than the tolls of the steps that were begun come to: where no step takes more than one way; and
--- where a tree is the document, with what the nodes that texts named may cost beside the tolls
-pub record IsLazy {W : Type 0} (c : Course W) (fills fills' : ℕ) (steps : List Step) (answers : List Answer) : Type 0 where
-  pub ways : TakeOneWay steps → c.HasTolls → fills' ≤ fills + begun (act_toll c) (names_on c.trail) no_names answers steps
-  pub tree : c.HasTolls → (f : Finished) → c.IsDocument f.tree → IsRight c.NamesAt f steps
-      → fills' ≤ fills + (begun (tree_toll c f.tree) (names_after f) no_names answers steps + walks_owed (charge_named c f) 0 answers steps)
+-- the lines that answer what was heard on a finished document, where names hold given places before it
+abbrev pub spoken_from : Finished → List (List ℕ) → Names → List Note → List Heard → List ℕ
+spoken_from f sources names notes [] = []
+spoken_from f sources names notes (no_form ∷ heard) = no_form_line ++ spoken_from f sources names notes heard
+spoken_from f sources names notes (step s ∷ heard) =
+    let now = answered f names (first_note notes) s in
+    line_of sources s.client now.0 ++ spoken_from f sources now.1 (later_notes notes) heard
 
--- all steps were answered, and the lines of their answers were written; a fault line was written where this is marked. The
--- first says what the answers are, the second what they and one step more may have cost
-pub record IsWhole (Are Cost : List Answer → Type 0) (names : List (List ℕ)) (steps : List Step) (before after : SinkView) (marked : Bool) : Type 0 where
-  pub answers : List Answer
-  pub are : Are answers
-  pub all : length answers ≡ length steps
-  pub written : Appends before.written after.written (answer_lines names answers steps)
-  pub cost : Cost answers
-  pub marks : marked ≡ has_fault answers
-
--- the lines of the answers to the first steps were written whole, and at most the next step was begun
-pub record EndsBetween (Are Cost : List Answer → Type 0) (names : List (List ℕ)) (steps : List Step) (before after : SinkView) : Type 0 where
-  pub answers : List Answer
-  pub are : Are answers
-  pub written : Appends before.written after.written (answer_lines names answers steps)
-  pub cost : Cost answers
-
--- the lines of the answers to the first steps were written whole, and a prefix of the line of the next answer
-pub record EndsWithin (Are Cost : List Answer → Type 0) (names : List (List ℕ)) (steps : List Step) (before after : SinkView) : Type 0 where
-  pub answers : List Answer
-  pub last : Answer
-  pub are : Are (answers ++ last ∷ [])
-  pub count : ℕ
-  pub written : Appends before.written after.written (take (length (answer_lines names answers steps) + count) (answer_lines names (answers ++ last ∷ []) steps))
-  pub cost : Cost answers
-
--- how the lines of answers end: all were written; or the sink failed in a line; or memory ran out, between two lines or in one
-abbrev pub EndsBy : (List Answer → Type 0) → (List Answer → Type 0) → List (List ℕ) → List Step → SinkView → SinkView → Result Bool LinesFault → Type 0
-EndsBy Are Cost names steps before after (Ok marked) = IsWhole Are Cost names steps before after marked
-EndsBy Are Cost names steps before after (Err SinkFailed) = HasRisen before.faults after.faults × EndsWithin Are Cost names steps before after
-EndsBy Are Cost names steps before after (Err OutOfMemory) = EndsBetween Are Cost names steps before after ⊎ EndsWithin Are Cost names steps before after
-
--- how the lines of answers on a course end, over sources that meant the first view before and mean the second after
-abbrev pub Ends : {W : Type 0} → Course W → View → View → List (List ℕ) → List Step → SinkView → SinkView → Result Bool LinesFault → Type 0
-Ends c old new names steps before after r = EndsBy (IsRun c old.faults new.faults steps) (IsLazy c old.fills new.fills steps) names steps before after r
+-- the transcript of what was heard: that of its steps, with a line of its own for what has no form
+abbrev pub heard_transcript : Finished → List (List ℕ) → List Note → List Heard → List ℕ
+heard_transcript f sources notes heard = spoken_from f sources no_names notes heard

@@ -6,7 +6,7 @@ use Rattle.mix_script.specs.Names.{NamesOf, no_names}
 use Rattle.lxp_core.specs.View.{View}
 use Rattle.mix_script.specs.Trails.{TakeOneWay, names_on}
 use Rattle.mix_script.specs.Transcript.{Finished, IsRight, Names, Naming, names_after}
-use Rattle.mix_script.specs.Allowed.{Nodes, AreAnswers, answer_lines, has_fault, faults_of, begun, walks_owed}
+use Rattle.mix_script.specs.Allowed.{Nodes, AreAnswers, has_fault, faults_of, begun, walks_owed}
 use Rattle.mix_script.specs.Finished.{AreOf}
 use Rattle.mix_script.specs.Holding.{HoldBoth}
 use Rattle.mix_script.specs.declared.step.Act.{Act}
@@ -15,14 +15,9 @@ use Rattle.mix_script.specs.declared.answer.Answer.{Answer}
 use Rattle.mix_session.specs.Meaning.{Course, Meaning, GoesOn}
 use Rattle.mix_session.specs.Held.{HoldNodes, IsSession}
 use Rattle.mix_session.specs.Stepped.{act_toll, tree_toll}
-use Rattle.mix_lines.specs.Lines.{charge_named}
-
--- the lines of answers to the steps before the later ones were written; this tells whether one of them is a fault
-pub record AreWritten (names : List (List ℕ)) (steps later : List Step) (before after : Option (List ℕ)) (marked : Bool) (answers : List Answer) : Type 0 where
-  pub count : length answers + length later ≡ length steps
-  pub lines : (more : List Answer) → answer_lines names (answers ++ more) steps ≡ answer_lines names answers steps ++ answer_lines names more later
-  pub written : Appends before after (answer_lines names answers steps)
-  pub marks : marked ≡ has_fault answers
+use Rattle.mix_lines.specs.Ends.{charge_named}
+use Rattle.mix_lines.specs.Heard.{Heard, steps_in}
+use Rattle.mix_lines.specs.Lines.{spoken}
 
 -- the names hold nodes at places of a finished document, from which its answers to the later steps, put after those so far, are its answers to all steps
 pub record IsOnTree {V : Type 0} (NamesAt : Naming) (At : V → List ℕ → Type 0) (f : Finished) (values : NamesOf V) (steps later : List Step) (answers : List Answer) : Type 0 where
@@ -80,9 +75,11 @@ pub record IsSoFar {V W : Type 0} (c : Course W) (m : Meaning V W) (old now : Vi
   pub spent : TakeOneWay steps → c.HasTolls → IsSpent m.IsTold (act_toll c) (names_on c.trail) old.fills now.fills values steps later answers
   pub spent_on : c.HasTolls → (f : Finished) → c.IsDocument f.tree → IsRight c.NamesAt f steps → IsPaidSoFar c m f old.fills now.fills values steps later answers
 
--- a session has answered all steps but the later ones, and the lines of its answers were written
-pub record IsFar {V W : Type 0} (c : Course W) (m : Meaning V W) (old now : View) (values : NamesOf V) (names : List (List ℕ)) (steps : List Step) (before after : Option (List ℕ)) (marked : Bool) (later : List Step) : Type 0 where
+-- a session has answered all that was heard so far, and the lines of its answers were written; this tells whether one of them is a fault
+pub record IsFar {V W : Type 0} (c : Course W) (m : Meaning V W) (old now : View) (values : NamesOf V) (names : List (List ℕ)) (heard : List Heard) (before after : Option (List ℕ)) (marked : Bool) : Type 0 where
   pub session : IsSession m values
   pub answers : List Answer
-  pub written : AreWritten names steps later before after marked answers
-  pub so : IsSoFar c m old now values steps later answers
+  pub so : (later : List Step) → IsSoFar c m old now values (steps_in heard ++ later) later answers
+  pub all : length answers ≡ length (steps_in heard)
+  pub written : Appends before after (spoken names heard answers)
+  pub marks : marked ≡ has_fault answers

@@ -2,8 +2,6 @@
 use Rattle.std.proofs.Common.{◌≡◌, ◌∙◌, ◌≤◌, ◌-◌, ◌++◌, inl, inr, ℕ, List, Result, Ok, Err, IfOk, IfErr, ap, sym, subst, length}
 use Rattle.mix_io.specs.Views.{SinkView}
 use Rattle.mix_io.proofs.Written.{one_more}
-use Rattle.mix_lines.specs.declared.fault.LinesFault.{LinesFault}
-use Rattle.mix_lines.specs.declared.fault.LinesFault.TheVariants as lines
 use Rattle.mix_reach.specs.Stores.{StoresView}
 use Rattle.plan_core.specs.PlanMade.{plan_value}
 use Rattle.mix_top.specs.declared.counting.Counts.{Counts}
@@ -17,7 +15,7 @@ use Rattle.mix_top.specs.Course.{lines_of_count}
 use Rattle.mix_top.specs.Ends.{TookPrefix}
 use Rattle.mix_top.specs.Running.{IsLinesEnd, LinesOver, by_fills, question}
 use Rattle.mix_place.specs.Placed.{Placed}
-use Rattle.mix_top.specs.Stops.{IsCut, IsCutShort, IsDoneAs, IsStopFrom, outcome_status, stop_for}
+use Rattle.mix_top.specs.Stops.{IsCut, IsCutShort, IsDoneAs, IsStopFrom, outcome_status}
 use Rattle.mix_top.proofs.Further.{TookOn, answered_on}
 use Rattle.mix_top.proofs.Lines.{cut_last, cut_on, first_prefix, nothing_more}
 
@@ -64,27 +62,28 @@ module _ (stores stores' : StoresView) (p : Placed) (asked : Asked) (counts : Co
     prefix_counted h = (h.0, h.1 ++ more, with_counts before mid mid (nothing_more mid.written) h.0 h.1 h.2, first_prefix before.written mid.written h.1 more h.3)
 
     -- a run with counts that was cut short in its answers was stopped
-    cut_short : (fault : LinesFault) → IsCutShort (Answers before mid) before mid fault → IsStopFrom (stores' ≡ stores) (Counted before mid) before mid (stop_for fault)
-    cut_short lines.SinkFailed h = (h.0, prefix_counted h.1)
-    cut_short lines.OutOfMemory h = inr (prefix_counted h)
+    cut_short : (stop : Stop) → IsCutShort (Answers before mid) before mid stop → IsStopFrom (stores' ≡ stores) (Counted before mid) before mid stop
+    cut_short (Refused r) h = absurd h
+    cut_short SinkFailed h = (h.0, prefix_counted h.1)
+    cut_short OutOfMemory h = inr (prefix_counted h)
 
     module _ (count : before.faults ≤ mid.faults) where
       -- a run with counts was done where its answers and its counts were written
-      pub counted_done : (end : Result Outcome LinesFault) (r : Result Outcome Stop) → IsLinesEnd Answers before mid end → IfOk r (IsCounted end mid after more)
+      pub counted_done : (end : Result Outcome Stop) (r : Result Outcome Stop) → IsLinesEnd Answers before mid end → IfOk r (IsCounted end mid after more)
           → IfOk r (IsDoneAs (Counted before after) before after)
       counted_done end (Ok outcome) h w =
-          let done = subst (λ (e : Result Outcome LinesFault). IsLinesEnd Answers before mid e) w.0 h in
+          let done = subst (λ (e : Result Outcome Stop). IsLinesEnd Answers before mid e) w.0 h in
           (done.0 ++ more, with_counts before mid after (more, w.1) (outcome_status outcome) done.0 done.1, one_more before.written mid.written after.written done.0 more done.2 w.1)
       counted_done end (Err stop) h w = tt
 
       -- a run with counts was stopped where its answers or its counts were cut short
-      pub counted_stopped : (end : Result Outcome LinesFault) (r : Result Outcome Stop) → IsLinesEnd Answers before mid end → IfErr r (IsCountStop end mid after more)
+      pub counted_stopped : (end : Result Outcome Stop) (r : Result Outcome Stop) → IsLinesEnd Answers before mid end → IfErr r (IsCountStop end mid after more)
           → IfErr r (IsStopFrom (stores' ≡ stores) (Counted before after) before after)
       counted_stopped end (Ok outcome) h w = tt
       counted_stopped end (Err stop) h (inl w) =
-          let cut = cut_short w.0 (subst (λ (e : Result Outcome LinesFault). IsLinesEnd Answers before mid e) w.1 h) in
-          subst (λ (x : SinkView). IsStopFrom (stores' ≡ stores) (Counted before x) before x stop) (sym w.3) (subst (λ (s : Stop). IsStopFrom (stores' ≡ stores) (Counted before mid) before mid s) (sym w.2) cut)
+          let cut = cut_short stop (subst (λ (e : Result Outcome Stop). IsLinesEnd Answers before mid e) w.0 h) in
+          subst (λ (x : SinkView). IsStopFrom (stores' ≡ stores) (Counted before x) before x stop) (sym w.1) cut
       counted_stopped end (Err stop) h (inr w) =
-          let done = subst (λ (e : Result Outcome LinesFault). IsLinesEnd Answers before mid e) w.1 h in
+          let done = subst (λ (e : Result Outcome Stop). IsLinesEnd Answers before mid e) w.1 h in
           let on = cut_on mid after more stop w.2 in
           cut_counted before mid after on (outcome_status w.0) (done.0 ++ more) stop (with_counts before mid after on (outcome_status w.0) done.0 done.1) (cut_last before mid after done.0 more stop done.2 count w.2)

@@ -1,14 +1,15 @@
 -- What holds of a run whose sink has taken some of its lines holds after it took more.
-use Rattle.std.proofs.Common.{◌≡◌, ◌≤◌, inl, inr, ◌∙◌, ℕ, List, ◌++◌, Option, ap, append_assoc, refl, string_bytes, sym, subst}
+use Rattle.std.proofs.Common.{◌≡◌, ◌≤◌, inl, inr, ◌∙◌, ℕ, List, ◌++◌, Option, ap, append_assoc, map, refl, string_bytes, sym, subst}
 use Rattle.mix_base.proofs.Risen.{risen_before}
 use Rattle.mix_io.specs.Views.{SinkView}
 use Rattle.mix_io.specs.Contents.{Appends, AppendsPrefix}
 use Rattle.mix_io.proofs.Written.{one_more}
-use Rattle.mix_script.specs.Allowed.{answer_lines}
+use Rattle.mix_lines.specs.Heard.{Heard, step}
+use Rattle.mix_lines.specs.Lines.{spoken}
 use Rattle.mix_script.specs.declared.answer.Answer.{Answer}
 use Rattle.mix_reach.specs.Stores.{StoresView}
 use Rattle.xmas_read.specs.Results.{names_of_sources}
-use Rattle.mix_top.specs.Answered.{IsAnswered, IsFrugal, in_order}
+use Rattle.mix_top.specs.Answered.{IsAnswered, IsFrugal}
 use Rattle.mix_top.specs.Commands.{Command, help, version, walk, read, plan, check, run, count, exec, loop, load, unknown}
 use Rattle.mix_top.specs.Course.{IsCourse}
 use Rattle.mix_top.specs.Ends.{Ends, EndsFrom, TookPrefix}
@@ -25,13 +26,20 @@ TookOn before after = (more : List ℕ) × Appends before.written after.written 
 
 module _ (before mid after : SinkView) (on : TookOn mid after) where
   -- steps that asked no more than their tolls asked no more after the sink took more lines
-  frugal_on : (q : Question) (fills : ℕ) (answers : List Answer) → IsFrugal (in_order q) before.written mid.written q fills answers → IsFrugal (in_order q) before.written after.written q fills answers
-  frugal_on q fills answers h = record {
+  frugal_on : (heard : List Heard) (q : Question) (fills : ℕ) (answers : List Answer) → IsFrugal heard before.written mid.written q fills answers → IsFrugal heard before.written after.written q fills answers
+  frugal_on heard q fills answers h = record {
     whole = h.whole;
     later = h.later;
     parts = h.parts;
     lines = h.lines ++ on.0;
-    begin = (h.begin.0 ++ on.0, ap (λ l. l ++ on.0) h.begin.1 ∙ append_assoc (answer_lines (names_of_sources q.sources) h.whole q.steps) h.begin.0 on.0);
+    begin = record {
+      done = h.begin.done;
+      later = h.begin.later;
+      parts = h.begin.parts;
+      all = h.begin.all;
+      rest = h.begin.rest ++ on.0;
+      are = ap (λ l. l ++ on.0) h.begin.are ∙ append_assoc (spoken (names_of_sources q.sources) h.begin.done h.whole) h.begin.rest on.0;
+    };
     written = one_more before.written mid.written after.written h.lines on.0 h.written on.1;
     cost = h.cost;
   }
@@ -47,7 +55,7 @@ module _ (before mid after : SinkView) (on : TookOn mid after) where
     counted_view = h.counted_view;
     status_is = h.status_is;
     pages = h.pages;
-    cost = λ e. frugal_on q fills h.answers (h.cost e);
+    cost = λ e. frugal_on (map step q.steps) q fills h.answers (h.cost e);
     told = h.told;
     untold = h.untold;
   }

@@ -6,17 +6,19 @@ use Rattle.std.specs.Str.{bytes_eq}
 use Rattle.mix_tree.specs.Forest.{LabelledTree, alone}
 use Rattle.mix_tree.specs.Place.{has_place, tree_at}
 use Rattle.node_text.specs.Node.{NodeValue}
-use Rattle.mix_script.specs.Allowed.{Nodes, MayAnswer, MayFindRoot, nodes_after, AreAnswers, answer_lines, note_of, notes_of}
+use Rattle.mix_script.specs.Allowed.{Nodes, MayAnswer, MayFindRoot, nodes_after, AreAnswers, note_of, notes_of}
 use Rattle.mix_script.specs.Answers.{line_of}
 use Rattle.mix_script.specs.Finished.{AreOf, IsTold}
 use Rattle.mix_script.specs.Names.{no_names, with_name}
 use Rattle.mix_script.specs.Trails.{with_named, names_with}
-use Rattle.mix_script.specs.Transcript.{AreNotes, Finished, IsRight, IsRightFor, IsSense, IsTextOf, MayBeNoted, Names, Naming, Note, answer_of, answered, failed, goal_of, if_held, label_answer, lines_from, may_fail, move_answer, nothing, spelled, transcript, unless_failed}
+use Rattle.mix_script.specs.Transcript.{AreNotes, Finished, IsRight, IsRightFor, IsSense, IsTextOf, MayBeNoted, Names, Naming, Note, answer_of, answered, failed, goal_of, if_held, label_answer, may_fail, move_answer, nothing, spelled, transcript, unless_failed}
 use Rattle.mix_script.specs.declared.answer.Answer.{Answer}
 use Rattle.mix_script.specs.declared.answer.Answer.TheVariants as answer
 use Rattle.mix_script.specs.declared.step.Act.{Act}
 use Rattle.mix_script.specs.declared.step.Act.TheVariants.{Root, Move, Select, Fetch, Print, Id, At}
 use Rattle.mix_script.specs.declared.step.Step.{Step}
+use Rattle.mix_lines.specs.Heard.{Heard, no_form, step, steps_in}
+use Rattle.mix_lines.specs.Lines.{heard_transcript, no_form_line, spoken, spoken_from}
 use Rattle.mix_top.specs.Answered.{IsNoFault}
 
 module _ (NamesAt : Naming) (f : Finished) (each : (p : List ℕ) → has_place (alone f.tree) p ≡ true → (x : List ℕ) × IsTextOf NamesAt x p)
@@ -200,35 +202,38 @@ module _ (NamesAt : Naming) (f : Finished) (each : (p : List ℕ) → has_place 
     notes_complete answers steps right may of = notes_go_on no_names no_names answers steps right (λ client name p is. absurd (let z : None ≡ Some p = is in cc)) may of
 
 module _ (NamesAt : Naming) (f : Finished) (sources : List (List ℕ)) (more : List Note) where
-  -- what is left of the lines of all steps, under the notes that the answers show and then others
-  lines_begin_from : (names : Names) (answers : List Answer) (steps : List Step) → AreOf NamesAt f names answers steps
-      → (rest : List ℕ) × (answer_lines sources answers steps ++ rest ≡ lines_from f sources names (notes_of answers ++ more) steps)
-  lines_begin_from names [] steps of = (lines_from f sources names more steps, refl)
-  lines_begin_from names (a ∷ answers) [] of = absurd of
-  lines_begin_from names (a ∷ answers) (step ∷ steps) of =
-      let later = lines_begin_from (answered f names (note_of a) step).1 answers steps of.2 in (
+  -- the lines of answers that are a document's begin those under the notes that they show and then others, from these names on
+  lines_begin_from : (names : Names) (heard : List Heard) (answers : List Answer) → AreOf NamesAt f names answers (steps_in heard)
+      → (rest : List ℕ) × (spoken sources heard answers ++ rest ≡ spoken_from f sources names (notes_of answers ++ more) heard)
+  lines_begin_from names [] answers of = ([], refl)
+  lines_begin_from names (no_form ∷ heard) answers of =
+      let later = lines_begin_from names heard answers of in
+      (later.0, append_assoc no_form_line (spoken sources heard answers) later.0 ∙ ap (λ r. no_form_line ++ r) later.1)
+  lines_begin_from names (step s ∷ heard) [] of = (spoken_from f sources names more (step s ∷ heard), refl)
+  lines_begin_from names (step s ∷ heard) (a ∷ answers) of =
+      let later = lines_begin_from (answered f names (note_of a) s).1 heard answers of.2 in (
         later.0,
-        append_assoc (line_of sources step.client a) (answer_lines sources answers steps) later.0
-            ∙ ap (λ r. line_of sources step.client a ++ r) later.1
-            ∙ ap (λ x. line_of sources step.client x ++ lines_from f sources (answered f names (note_of a) step).1 (notes_of answers ++ more) steps) of.0,
+        append_assoc (line_of sources s.client a) (spoken sources heard answers) later.0
+            ∙ ap (λ r. line_of sources s.client a ++ r) later.1
+            ∙ ap (λ x. line_of sources s.client x ++ spoken_from f sources (answered f names (note_of a) s).1 (notes_of answers ++ more) heard) of.0,
       )
 
-  -- the lines of answers to the first steps begin the transcript of all, under the notes that the answers show and then others
-  pub lines_begin : (answers : List Answer) (steps : List Step) → AreOf NamesAt f no_names answers steps
-      → (rest : List ℕ) × (answer_lines sources answers steps ++ rest ≡ transcript f sources (notes_of answers ++ more) steps)
-  lines_begin answers steps of = lines_begin_from no_names answers steps of
+  -- the lines of answers to the first steps that were heard begin the transcript of all, under the notes that the answers show and then others
+  pub lines_begin : (heard : List Heard) (answers : List Answer) → AreOf NamesAt f no_names answers (steps_in heard)
+      → (rest : List ℕ) × (spoken sources heard answers ++ rest ≡ heard_transcript f sources (notes_of answers ++ more) heard)
+  lines_begin heard answers of = lines_begin_from no_names heard answers of
 
-  -- the lines of answers to all steps are those of the steps, from these names on
-  lines_all_from : (names : Names) (answers : List Answer) (steps : List Step) → AreOf NamesAt f names answers steps → length answers ≡ length steps
-      → answer_lines sources answers steps ≡ lines_from f sources names (notes_of answers ++ more) steps
-  lines_all_from names [] [] of all = refl
-  lines_all_from names [] (step ∷ steps) of all = absurd (omega arith)
-  lines_all_from names (a ∷ answers) [] of all = absurd of
-  lines_all_from names (a ∷ answers) (step ∷ steps) of all =
-      ap (λ r. line_of sources step.client a ++ r) (lines_all_from (answered f names (note_of a) step).1 answers steps of.2 (omega (arith, all)))
-      ∙ ap (λ x. line_of sources step.client x ++ lines_from f sources (answered f names (note_of a) step).1 (notes_of answers ++ more) steps) of.0
+  -- the lines of answers to all steps that were heard are those under the notes that the answers show, from these names on
+  lines_all_from : (names : Names) (heard : List Heard) (answers : List Answer) → AreOf NamesAt f names answers (steps_in heard) → length answers ≡ length (steps_in heard)
+      → spoken sources heard answers ≡ spoken_from f sources names (notes_of answers ++ more) heard
+  lines_all_from names [] answers of all = refl
+  lines_all_from names (no_form ∷ heard) answers of all = ap (λ r. no_form_line ++ r) (lines_all_from names heard answers of all)
+  lines_all_from names (step s ∷ heard) [] of all = absurd (omega (arith, all))
+  lines_all_from names (step s ∷ heard) (a ∷ answers) of all =
+      ap (λ r. line_of sources s.client a ++ r) (lines_all_from (answered f names (note_of a) s).1 heard answers of.2 (omega (arith, all)))
+      ∙ ap (λ x. line_of sources s.client x ++ spoken_from f sources (answered f names (note_of a) s).1 (notes_of answers ++ more) heard) of.0
 
-  -- the lines of answers to all steps are the transcript, under the notes that the answers show
-  pub lines_all : (answers : List Answer) (steps : List Step) → AreOf NamesAt f no_names answers steps → length answers ≡ length steps
-      → answer_lines sources answers steps ≡ transcript f sources (notes_of answers ++ more) steps
-  lines_all answers steps of all = lines_all_from no_names answers steps of all
+  -- the lines of answers to all steps that were heard are the transcript, under the notes that the answers show
+  pub lines_all : (heard : List Heard) (answers : List Answer) → AreOf NamesAt f no_names answers (steps_in heard) → length answers ≡ length (steps_in heard)
+      → spoken sources heard answers ≡ heard_transcript f sources (notes_of answers ++ more) heard
+  lines_all heard answers of all = lines_all_from no_names heard answers of all

@@ -2,13 +2,13 @@
 use Rattle.std.proofs.Common.{◌≡◌, ◌+◌, ◌-◌, ◌^◌, ◌≤◌, inl, inr, ℕ, List, Option, Result, sym, subst, arith}
 use Rattle.mix_io.specs.Views.{FilesView, SinkView}
 use Rattle.lxp_core.specs.View.{View}
-use Rattle.mix_lines.specs.declared.fault.LinesFault.{LinesFault}
 use Rattle.mix_loop.specs.Loops.{StandIn}
 use Rattle.mix_reach.specs.Reach.{AreFewPages, CameFrom, Reaching, view_of}
 use Rattle.mix_reach.specs.Stores.{StoresView, stores_of}
 use Rattle.plan_core.specs.PlanMade.{plan_value}
 use Rattle.plan_core.specs.declared.plan.Plan.{Plan}
 use Rattle.mix_place.specs.Placed.{ArePlaced}
+use Rattle.mix_place.specs.declared.refusal.Stop.{Stop}
 use Rattle.mix_place.specs.Placed.{Placed}
 use Rattle.mix_top.specs.Running.{IsEndOver, IsLinesEnd, LinesOver, by_fills, placed_of}
 use Rattle.mix_top.specs.declared.asked.Asked.{Asked}
@@ -27,19 +27,19 @@ few_unfilled a b came none = few came.pages
     few (inl h) = omega (arith, h, none)
     few (inr h) = omega (arith, h, none)
 
-module _ (asked : Asked) (before after : SinkView) (end : Result Outcome LinesFault) (a b : Reaching) (views : List (Option Plan))
+module _ (asked : Asked) (before after : SinkView) (end : Result Outcome Stop) (a b : Reaching) (views : List (Option Plan))
     (h : IsLinesEnd (LinesOver (by_fills b.fills) (stores_of a) (stores_of b) (placed_of a views) asked) before after end) where
   -- the lines of a run over sources that were reached ended as they did, whatever the sources are called
-  pub end_stood : (place : Placed) (stores stores' : StoresView) (fills : ℕ) (end' : Result Outcome LinesFault) → placed_of a views ≡ place → stores_of a ≡ stores → stores_of b ≡ stores' → fills ≡ b.fills → end' ≡ end
+  pub end_stood : (place : Placed) (stores stores' : StoresView) (fills : ℕ) (end' : Result Outcome Stop) → placed_of a views ≡ place → stores_of a ≡ stores → stores_of b ≡ stores' → fills ≡ b.fills → end' ≡ end
       → IsLinesEnd (LinesOver (by_fills fills) stores stores' place asked) before after end'
   end_stood place stores stores' fills end' d t t' f e =
       subst (λ (x : Placed). IsLinesEnd (LinesOver (by_fills fills) stores stores' x asked) before after end') d
       (subst (λ (x : StoresView). IsLinesEnd (LinesOver (by_fills fills) x stores' (placed_of a views) asked) before after end') t
       (subst (λ (x : StoresView). IsLinesEnd (LinesOver (by_fills fills) (stores_of a) x (placed_of a views) asked) before after end') t'
       (subst (λ (x : ℕ). IsLinesEnd (LinesOver (by_fills x) (stores_of a) (stores_of b) (placed_of a views) asked) before after end') (sym f)
-      (subst (λ (x : Result Outcome LinesFault). IsLinesEnd (LinesOver (by_fills b.fills) (stores_of a) (stores_of b) (placed_of a views) asked) before after x) (sym e) h))))
+      (subst (λ (x : Result Outcome Stop). IsLinesEnd (LinesOver (by_fills b.fills) (stores_of a) (stores_of b) (placed_of a views) asked) before after x) (sym e) h))))
 
-module _ (old new : View) (views : List (Option Plan)) (asked : Asked) (before after : SinkView) (end : Result Outcome LinesFault) (files : FilesView) (a b : Reaching) (over : IsEndOver old new views asked before after end)
+module _ (old new : View) (views : List (Option Plan)) (asked : Asked) (before after : SinkView) (end : Result Outcome Stop) (files : FilesView) (a b : Reaching) (over : IsEndOver old new views asked before after end)
     (placed : ArePlaced files (plan_value asked.plan).ops asked.catalog (placed_of a views)) (unasked : a.fills ≡ 0) (stand : StandIn old new a b) (most : b.mounted.tables.pages ≤ 2 ^ 64 - 1) (most_fills : b.fills ≤ 2 ^ 64 - 1) where
   -- no more pages were asked than fills
   few : AreFewPages a b → b.mounted.tables.pages ≤ a.mounted.tables.pages + b.fills
@@ -47,6 +47,6 @@ module _ (old new : View) (views : List (Option Plan)) (asked : Asked) (before a
   few (inr h) = omega (arith, h, most)
 
   -- the lines of a run over sources that stood in for others ended as over these, whatever they are called
-  pub reached_end : (place : Placed) (stores stores' : StoresView) (fills : ℕ) (end' : Result Outcome LinesFault) → placed_of a views ≡ place → stores_of a ≡ stores → stores_of b ≡ stores' → fills ≡ b.fills → end' ≡ end
+  pub reached_end : (place : Placed) (stores stores' : StoresView) (fills : ℕ) (end' : Result Outcome Stop) → placed_of a views ≡ place → stores_of a ≡ stores → stores_of b ≡ stores' → fills ≡ b.fills → end' ≡ end
       → IsLinesEnd (LinesOver (by_fills fills) stores stores' place asked) before after end'
   reached_end = end_stood asked before after end a b views (over files a b placed unasked stand (few stand.came.pages) most_fills)

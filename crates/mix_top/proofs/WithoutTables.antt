@@ -20,6 +20,7 @@ use Rattle.mix_script.specs.declared.step.Step.{Step}
 use Rattle.mix_script.specs.declared.answer.Answer.{Answer}
 use Rattle.mix_script.specs.declared.answer.Answer.TheVariants as answer
 use Rattle.mix_script.proofs.Answering.{unmarked}
+use Rattle.mix_lines.proofs.Script.{transcript_of_script}
 use Rattle.xmas_read.specs.Results.{names_of_sources}
 use Rattle.mix_top.specs.Answered.{IsNoFault, MayFail, RunsWithoutTablesAreUnmarked, all_told, is_far_told, is_spec_told, is_table_told, told_from}
 use Rattle.mix_place.specs.Documents.{far_in}
@@ -196,5 +197,6 @@ without_tables before after q fills sink sink' status lines none is =
       is.status_is ∙ ap (λ b. cond b 1 0) faultless,
       λ plain.
           let of = is.told told in
-          of.are ∙ plain_lines (naming q) (finished q) (names_of_sources q.sources) no_names (notes_of is.answers ++ of.more) q.steps plain of.allowed (no_faults is.answers of.more faultless of.others),
+          of.are ∙ transcript_of_script (finished q) (names_of_sources q.sources) no_names (notes_of is.answers ++ of.more) q.steps
+          ∙ plain_lines (naming q) (finished q) (names_of_sources q.sources) no_names (notes_of is.answers ++ of.more) q.steps plain of.allowed (no_faults is.answers of.more faultless of.others),
     )

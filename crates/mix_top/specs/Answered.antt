@@ -1,5 +1,5 @@
 -- What a run comes to whose files are all accepted: the answers to its steps, and its lines.
-use Rattle.std.specs.Prelude.{◌≡◌, ◌⊎◌, ◌≤◌, ◌++◌, ℕ, ◌+◌, ◌*◌, Bool, true, false, ◌&&◌, ◌||◌, not, cond, IsTrue, List, [], ◌∷◌, Option, Some, None, is_some, length, slice_get}
+use Rattle.std.specs.Prelude.{◌≡◌, ◌⊎◌, ◌≤◌, ◌++◌, ℕ, ◌+◌, ◌*◌, Bool, true, false, ◌&&◌, ◌||◌, not, cond, IsTrue, List, [], ◌∷◌, Option, Some, None, is_some, length, map, slice_get}
 use Rattle.std.specs.List.{AllByRecursion}
 use Rattle.mix_base.specs.Counts.{HasRisenBy}
 use Rattle.mix_catalog.specs.declared.source.SourceSpec.{SourceSpec}
@@ -13,10 +13,12 @@ use Rattle.mix_reach.specs.Stores.{StoresView}
 use Rattle.table_keep.specs.Views.{Declared, TablesView}
 use Rattle.table_wrap.specs.Document.{declared_in}
 use Rattle.mix_script.specs.Names.{no_names}
-use Rattle.mix_script.specs.Allowed.{AreAnswers, answer_lines, begun, faults_of, has_fault, notes_of, walks_owed}
+use Rattle.mix_script.specs.Allowed.{AreAnswers, begun, faults_of, has_fault, notes_of, walks_owed}
 use Rattle.mix_script.specs.Steps.{ArePlain}
 use Rattle.mix_script.specs.Transcript.{AreNotes, Note, failed, names_after, nothing, spelled, transcript, unnamed}
 use Rattle.mix_script.specs.declared.answer.Answer.{Answer}
+use Rattle.mix_lines.specs.Heard.{Heard, step, steps_in}
+use Rattle.mix_lines.specs.Lines.{heard_transcript, spoken}
 use Rattle.mix_session.specs.Stepped.{act_toll_by}
 use Rattle.mix_session.specs.Tolls.{toll_from}
 use Rattle.mix_session.specs.Walks.{place_toll}
@@ -117,28 +119,23 @@ steps_charge q answers =
     begun (act_toll_by 0 (place_toll q.docs q.ops) text_reach q.tree) (names_after (finished q)) no_names answers q.steps
     + walks_owed (λ node. toll_from (walk_charge q.docs q.ops) (q.named node)) 0 answers q.steps
 
--- how answers to steps are written: the lines of the first answers, all lines under notes, and when a text begins with the whole lines of given answers
-pub record Manner : Type 1 where
-  pub lines_of : List Answer → List ℕ
-  pub under : List Note → List ℕ
-  pub Begin : List Answer → List ℕ → Type 0
-
--- how the answers to the steps of a script are written: a line each, one after another
-abbrev pub in_order : Question → Manner
-in_order q = record {
-  lines_of = λ answers. answer_lines (names_of_sources q.sources) answers q.steps;
-  under = λ notes. transcript (finished q) (names_of_sources q.sources) notes q.steps;
-  Begin = λ whole lines. (rest : List ℕ) × (lines ≡ answer_lines (names_of_sources q.sources) whole q.steps ++ rest);
-}
+-- lines begin with the whole lines of these answers, which are to the first part of what was heard
+pub record BeginsWith (q : Question) (heard : List Heard) (whole : List Answer) (lines : List ℕ) : Type 0 where
+  pub done : List Heard
+  pub later : List Heard
+  pub parts : heard ≡ done ++ later
+  pub all : length whole ≡ length (steps_in done)
+  pub rest : List ℕ
+  pub are : lines ≡ spoken (names_of_sources q.sources) done whole ++ rest
 
 -- at most as many fills were asked as the steps may cost that were begun, each as often as a step costs at most in a view that the plan reads: those whose
 -- lines were written whole, and the next one
-pub record IsFrugal (w : Manner) (before after : Option (List ℕ)) (q : Question) (fills : ℕ) (answers : List Answer) : Type 0 where
+pub record IsFrugal (heard : List Heard) (before after : Option (List ℕ)) (q : Question) (fills : ℕ) (answers : List Answer) : Type 0 where
   pub whole : List Answer
   pub later : List Answer
   pub parts : answers ≡ whole ++ later
   pub lines : List ℕ
-  pub begin : w.Begin whole lines
+  pub begin : BeginsWith q heard whole lines
   pub written : Appends before after lines
   pub cost : (most : ℕ) → AreCheap q most → fills ≤ most * steps_charge q whole
 
@@ -148,17 +145,17 @@ IsNoFault nothing = Unit {0}
 IsNoFault (failed source) = ⊥
 IsNoFault (spelled text) = Unit {0}
 
--- given lines are those of all steps on the finished document of what is asked, under notes that stand only where they may: the first of them the answers show, and no
--- other says that a source failed
-pub record AreLinesOf (w : Manner) (q : Question) (answers : List Answer) (lines : List ℕ) : Type 0 where
+-- given lines are those of all that was heard on the finished document of what is asked, under notes that stand only where they may: the first of them the answers
+-- show, and no other says that a source failed
+pub record AreLinesOf (heard : List Heard) (q : Question) (answers : List Answer) (lines : List ℕ) : Type 0 where
   pub more : List Note
   pub others : AllByRecursion IsNoFault more
   pub allowed : AreNotes false (naming q) (finished q) no_names (notes_of answers ++ more) q.steps
-  pub are : lines ≡ w.under (notes_of answers ++ more)
+  pub are : lines ≡ heard_transcript (finished q) (names_of_sources q.sources) (notes_of answers ++ more) heard
 
--- what steps come to that are answered over stores that meant the first before and mean the second after, what it asked, and what a sink has
--- taken of their lines
-pub record IsAnsweredIn (w : Manner) (before after : StoresView) (q : Question) (fills : ℕ) (sink sink' : SinkView) (status : ℕ) (lines : List ℕ) : Type 0 where
+-- what all that was heard comes to, where its steps are those that are asked, and are answered over stores that meant the first before and mean the second after,
+-- what that asked, and what a sink has taken of the lines
+pub record IsHeardAnswered (heard : List Heard) (before after : StoresView) (q : Question) (fills : ℕ) (sink sink' : SinkView) (status : ℕ) (lines : List ℕ) : Type 0 where
   -- the answers to the first steps; a fault is one of a table, of another machine's source or of a view that the plan reads
   pub answers : List Answer
   pub allowed : AreAnswers false (MayFail (reads_source q.ops) q.sources) no_names answers q.steps
@@ -172,15 +169,15 @@ pub record IsAnsweredIn (w : Manner) (before after : StoresView) (q : Question) 
   -- no more pages of tables were asked than fills
   pub pages : after.tables.pages ≤ before.tables.pages + fills
   -- over told documents no more fills were asked than the steps may cost that were begun
-  pub cost : is_told before q ≡ true → IsFrugal w sink.written sink'.written q fills answers
-  -- over told documents the lines are those of all steps on the finished document, under the notes that the answers show
-  pub told : is_told before q ≡ true → AreLinesOf w q answers lines
+  pub cost : is_told before q ≡ true → IsFrugal heard sink.written sink'.written q fills answers
+  -- over told documents the lines are those of all that was heard on the finished document, under the notes that the answers show
+  pub told : is_told before q ≡ true → AreLinesOf heard q answers lines
   -- over documents that are not all told the lines are those of answers to all steps
-  pub untold : is_told before q ≡ false → (length answers ≡ length q.steps) × (lines ≡ w.lines_of answers)
+  pub untold : is_told before q ≡ false → (length answers ≡ length q.steps) × (lines ≡ spoken (names_of_sources q.sources) heard answers)
 
--- the answers to the steps of a run, its status and lines, over stores that meant the first before and mean the second after
+-- the answers to the steps of a run, which are what is heard of it, its status and lines, over stores that meant the first before and mean the second after
 abbrev pub IsAnswered : StoresView → StoresView → Question → ℕ → SinkView → SinkView → ℕ → List ℕ → Type 0
-IsAnswered before after q = IsAnsweredIn (in_order q) before after q
+IsAnswered before after q = IsHeardAnswered (map step q.steps) before after q
 
 -- where neither a plan nor a view that it reads needs a table or a source of another machine, and it reads no view, the status of a run is 0, and where no step writes
 -- an identifier down or follows one, its lines are the transcript without notes

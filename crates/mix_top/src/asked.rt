@@ -11,18 +11,17 @@ ghost use Rattle.std.specs.List.{AllByRecursion};
 ghost use Rattle.mix_top.specs.Finishing.{IsAnswerable};
 ghost use Rattle.mix_top.specs.Running.{IsEnd, IsEndOver, IsLinesEnd, LinesOver, by_fills, placed};
 ghost use Rattle.mix_place.specs.Plans.{IsPlanOver};
-ghost use Rattle.mix_top.specs.Stops.{end_of};
 
 use crate::law::plans_are_finished;
-use crate::outcome::{Outcome, outcome_of};
+use crate::outcome::{Outcome, end_of};
 use far_keep::Fars;
 use lazy_value::Mediator;
 use lxp_core::Sources;
 use mix_catalog::Catalog;
 use mix_io::Sink;
-use mix_lines::{LinesFault, run_lines};
+use mix_lines::run_lines;
 use mix_mount::Mounted;
-use mix_place::{Placement, source_names};
+use mix_place::{Placement, Stop, source_names};
 use mix_reach::{Reached, Stores};
 use mix_script::Step;
 use plan_core::Plan;
@@ -55,19 +54,9 @@ pub struct Spent {
 /// How the lines of a run ended, what its steps asked, and the stores.
 #[derive(Drop)]
 pub struct Answered<T, R> {
-    pub end: Result<Outcome, LinesFault>,
+    pub end: Result<Outcome, Stop>,
     pub spent: Spent,
     pub stores: Stores<T, R>,
-}
-
-// The outcome that the end of a run's lines is, or the fault that cut them short.
-fn end_of(end: Result<bool, LinesFault>) -> Result<Outcome, LinesFault>
-    ensures { result ≡ end_of end }
-{
-    match end {
-        Ok(marked) => Ok(outcome_of(marked)),
-        Err(fault) => Err(fault),
-    }
 }
 
 // Answers the steps of a run on the document of its plan over the sources of its catalog, each line by one write.
@@ -76,7 +65,7 @@ fn walk<S: Sources, K: Sink>(
     asked: Asked,
     sources: &mut S,
     out: &mut K,
-) -> Result<Outcome, LinesFault>
+) -> Result<Outcome, Stop>
     requires over { IsPlanOver asked.catalog (plan_value asked.plan) }
     requires answerable { IsAnswerable (plan_value asked.plan).ops asked.steps.items }
     requires number { (S.view sources.old).count ≡ length asked.catalog }
@@ -102,7 +91,7 @@ pub fn answer_over<S: Sources, K: Sink>(
     views: Vec<Option<Plan>>,
     sources: S,
     out: &mut K,
-) -> (Result<Outcome, LinesFault>, S)
+) -> (Result<Outcome, Stop>, S)
     requires over { IsPlanOver asked.catalog (plan_value asked.plan) }
     requires answerable { IsAnswerable (plan_value asked.plan).ops asked.steps.items }
     requires views { AllByRecursion (IsPlanOverBase (S.view sources).count) views.items }
@@ -119,13 +108,13 @@ pub fn answer_over<S: Sources, K: Sink>(
             let end = walk(alloc, asked, &mut stack, out);
             (end, stack.into_base())
         }
-        Err(refused) => (Err(LinesFault::OutOfMemory), refused.base),
+        Err(refused) => (Err(Stop::OutOfMemory), refused.base),
     }
 }
 
 /// What a run over sources came to whose lines ended so, where this many pages of tables were asked before it. The stores are handed back.
 pub fn hand_back<T: Tables, R: Fars>(
-    end: Result<Outcome, LinesFault>,
+    end: Result<Outcome, Stop>,
     sources: Reached<T, R>,
     before: u64,
 ) -> Answered<T, R>

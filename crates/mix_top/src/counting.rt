@@ -13,12 +13,11 @@ ghost use Rattle.mix_top.specs.Running.{LinesOver, placed};
 ghost use Rattle.mix_top.specs.Stops.{IsDoneAlong, IsStopAlong};
 
 use crate::asked::{Ready, Spent, answer};
-use crate::outcome::{Outcome, ended};
+use crate::outcome::Outcome;
 use crate::writing::write_lines;
 use browse_class::Class;
 use far_keep::Fars;
 use mix_io::Sink;
-use mix_lines::LinesFault;
 use mix_place::Stop;
 use mix_reach::Stores;
 use std::alloc::{AllocError, Global};
@@ -54,7 +53,7 @@ fn counts_text(alloc: Global, counts: &Counts) -> Result<String, AllocError>
 // Writes the lines of counts after those of a run, where these came to their end.
 fn write_counts<K: Sink>(
     alloc: Global,
-    end: Result<Outcome, LinesFault>,
+    end: Result<Outcome, Stop>,
     counts: &Counts,
     out: &mut K,
 ) -> Result<Outcome, Stop>
@@ -62,7 +61,7 @@ fn write_counts<K: Sink>(
     ensures err { IfErr result (IsCountStop end (K.view out.old) (K.view out.new) (lines_of_counts counts.now)) }
     ensures count { (K.view out.old).faults ≤ (K.view out.new).faults }
 {
-    let outcome = ended(end)?;
+    let outcome = end?;
     let text = counts_text(alloc, counts)?;
     write_lines(alloc, text.as_bytes(), out)?;
     Ok(outcome)

@@ -13,10 +13,9 @@ use crate::asked::{Answered, Ready, answer_over, hand_back};
 use crate::law::plans_are_finished;
 use far_keep::Fars;
 use mix_io::Sink;
-use mix_lines::LinesFault;
 use mix_loop::{close_loop, open_loop};
 use mix_mount::Mounted;
-use mix_place::Placement;
+use mix_place::{Placement, Stop};
 use mix_reach::{Reached, Stores};
 use std::alloc::Global;
 use table_keep::Tables;
@@ -51,6 +50,6 @@ pub fn answer_looped<T: Tables, R: Fars, K: Sink>(
             let (end, remote) = answer_over(alloc, asked, views, remote, out);
             hand_back(end, close_loop(remote), before)
         }
-        Err(kept) => hand_back(Err(LinesFault::OutOfMemory), kept, before),
+        Err(kept) => hand_back(Err(Stop::OutOfMemory), kept, before),
     }
 }

@@ -1,6 +1,7 @@
 // What a command that was done came to.
 ghost use Rattle.std.specs.Prelude.{◌≡◌};
-ghost use Rattle.mix_top.specs.Stops.{ended, outcome_of, stop_for};
+ghost use Rattle.mix_lines.specs.Ends.{IsInputless};
+ghost use Rattle.mix_top.specs.Stops.{IsEndOf, outcome_of};
 
 use mix_lines::LinesFault;
 use mix_place::Stop;
@@ -25,22 +26,15 @@ pub fn outcome_of(marked: bool) -> Outcome
     }
 }
 
-// The stop of a command that a fault of its lines is.
-fn stop_for(fault: LinesFault) -> Stop
-    ensures { result ≡ stop_for fault }
-{
-    match fault {
-        LinesFault::SinkFailed => Stop::SinkFailed,
-        LinesFault::OutOfMemory => Stop::OutOfMemory,
-    }
-}
-
-/// What a command comes to, by how its lines ended: its outcome, or the stop that a fault of them is.
-pub fn ended(end: Result<Outcome, LinesFault>) -> Result<Outcome, Stop>
-    ensures { result ≡ ended end }
+/// What a run comes to whose lines ended so: its outcome, or the stop that a fault of them is. Its lines need no input.
+pub fn end_of(end: Result<bool, LinesFault>) -> Result<Outcome, Stop>
+    requires { IsInputless end }
+    ensures { IsEndOf end result }
 {
     match end {
-        Ok(outcome) => Ok(outcome),
-        Err(fault) => Err(stop_for(fault)),
+        Ok(marked) => Ok(outcome_of(marked)),
+        Err(LinesFault::InputFailed) => unreachable!(),
+        Err(LinesFault::SinkFailed) => Err(Stop::SinkFailed),
+        Err(LinesFault::OutOfMemory) => Err(Stop::OutOfMemory),
     }
 }

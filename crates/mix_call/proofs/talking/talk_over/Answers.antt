@@ -6,7 +6,7 @@ use Rattle.lazy_value.specs.Named.{state_of}
 use Rattle.plan_core.specs.Plans.{Operator}
 use Rattle.plan_evidence.specs.Held.{UsesHeld}
 use Rattle.mix_session.specs.Walks.{plan_course}
-use Rattle.mix_talk.specs.Ends.{HeardEnds}
+use Rattle.mix_lines.specs.Talks.{HeardEnds}
 use Rattle.mix_call.proofs.talking.talk_over.Goals as goal
 
 pub returns-clause-end : goal.returns-clause-end

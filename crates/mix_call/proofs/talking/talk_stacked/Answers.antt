@@ -76,4 +76,4 @@ returns-in-Err-clause-end g c few most =
     let found = (c.plans_are_finished.ensures (plan_value basis.plan) c.requires.over.valid (all_documents (stores_of a) (placed_of a c.args.views.items))).1 c.requires.uses in
     let came = subst (λ r. CameFrom a (at r)) (sym c.in-Err.ensures.refused) (came_same a) in
     let none = ap (λ r. (at r).fills) c.in-Err.ensures.refused ∙ c.requires.unasked in
-    talk_untaken a b came c.args.views.items basis found.finished (λ steps. found.is steps tt) none few (g.I.Input.view c.args.streams.now.input) (g.K.Sink.view c.args.streams.now.out)
+    talk_untaken a b c.args.views.items basis found.finished (λ steps. found.is steps tt) few came none (g.I.Input.view c.args.streams.now.input) (g.K.Sink.view c.args.streams.now.out)

@@ -2,7 +2,7 @@ use Rattle.std.proofs.Common.{List, Option, option_map, Err, ap, arith, sym, sub
 use Rattle.std.proofs.lemmas.List.{length-map}
 use Rattle.plan_core.specs.PlanMade.{plan_value}
 use Rattle.plan_core.specs.declared.plan.Plan.{Plan}
-use Rattle.mix_lines.specs.declared.fault.LinesFault.TheVariants.{OutOfMemory}
+use Rattle.mix_place.specs.declared.refusal.Stop.TheVariants.{OutOfMemory}
 use Rattle.lxp_core.specs.View.{View}
 use Rattle.view_stack.specs.Stacks.{stacking_in}
 use Rattle.lazy_walk.specs.Walks.{plan_of}

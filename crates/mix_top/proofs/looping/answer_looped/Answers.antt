@@ -1,7 +1,7 @@
 use Rattle.std.proofs.Common.{◌≡◌, ◌∙◌, ◌+◌, ◌-◌, ◌^◌, ◌≤◌, Err, ap, length, sym, subst}
 use Rattle.mix_top.proofs.Finishing.{finished_for}
 use Rattle.mix_top.proofs.Opened.{stackable}
-use Rattle.mix_lines.specs.declared.fault.LinesFault.TheVariants.{OutOfMemory}
+use Rattle.mix_place.specs.declared.refusal.Stop.TheVariants.{OutOfMemory}
 use Rattle.lxp_remote.specs.Remotes as remote
 use Rattle.lxp_wire.specs.Stream.{sources_of}
 use Rattle.mix_loop.specs.Loops.{looped}
@@ -67,7 +67,7 @@ returns-in-Err-clause-end g c =
     let found = finished_for c.plans_are_finished.ensures (plan_value asked.plan) c.requires.over.valid asked.steps.items c.requires.answerable (all_documents (stores_of a) (placed_of a views)) in
     let few : b.mounted.tables.pages ≤ a.mounted.tables.pages + b.fills = few_unfilled a b c.in-Err.ensures.refused none in
     let place = placed_new view far (placed c.args.ready) c.new.result c.new-sources.result c.new.ensures.docs c.new-sources.ensures.mounted c.new-sources.ensures.sites in
-    end_stood asked before before (Err OutOfMemory) a b views (lines_unbegun a b c.in-Err.ensures.refused views asked found.0 found.1 none few before) (placed c.args.ready) (stores_in view far c.args.stores)
+    end_stood asked before before (Err OutOfMemory) a b views (lines_unbegun a b views asked found.0 found.1 few c.in-Err.ensures.refused none before) (placed c.args.ready) (stores_in view far c.args.stores)
     (stores_in view far c.hand_back-in-Err.result.stores) c.hand_back-in-Err.result.spent.fills c.hand_back-in-Err.result.end place
     (stores_new view far c.args.stores c.new.result c.new-sources.result c.new.ensures.tables c.new-sources.ensures.mounted c.new-sources.ensures.fars) (sym c.hand_back-in-Err.ensures.stores)
     c.hand_back-in-Err.ensures.fills c.hand_back-in-Err.ensures.end

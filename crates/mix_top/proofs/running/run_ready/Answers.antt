@@ -1,9 +1,6 @@
-use Rattle.std.proofs.Common.{◌≡◌, sym, subst, Result, IfOk, IfErr}
-use Rattle.mix_top.specs.declared.outcome.Outcome.{Outcome}
-use Rattle.mix_place.specs.declared.refusal.Stop.{Stop}
+use Rattle.std.proofs.Common.{◌≡◌, sym, subst, IfOk, IfErr}
 use Rattle.mix_top.specs.declared.running.RunForm.{RunForm}
 use Rattle.mix_top.specs.declared.running.RunForm.TheVariants.{Answers, Executed}
-use Rattle.mix_top.specs.Course.{lines_of_run}
 use Rattle.mix_reach.specs.Stores.{stores_in}
 use Rattle.mix_top.specs.Running.{LinesOver, placed, run_lines}
 use Rattle.mix_top.specs.Stops.{IsDoneAs, IsStopFrom}
@@ -19,10 +16,9 @@ returns-in-Answers-clause-done g c =
     let asked = c.args.ready.asked in
     let before = g.K.Sink.view c.args.out.now in
     let after = g.K.Sink.view c.answer-answered.new.out in
-    let done =
-    subst (λ (r : Result Outcome Stop). IfOk r (IsDoneAs (LinesOver lines_of_run old new p asked before after) before after)) (sym c.ended.ensures)
-    (ended_done old new p asked before after c.answer-answered.result.spent.fills c.answer-answered.result.end c.answer-answered.ensures.end) in
-    of_either (λ form. IfOk c.ended.result (IsDoneAs (LinesOver (run_lines form) old new p asked before after) before after)) c.args.form Answers Executed c.in-Answers.is done done
+    let end = c.answer-answered.result.end in
+    let done = ended_done old new p asked before after c.answer-answered.result.spent.fills end c.answer-answered.ensures.end in
+    of_either (λ form. IfOk end (IsDoneAs (LinesOver (run_lines form) old new p asked before after) before after)) c.args.form Answers Executed c.in-Answers.is done done
 
 pub returns-in-Counts-clause-done : goal.returns-in-Counts-clause-done
 returns-in-Counts-clause-done g c =
@@ -41,10 +37,9 @@ returns-in-Answers-clause-stop g c =
     let asked = c.args.ready.asked in
     let before = g.K.Sink.view c.args.out.now in
     let after = g.K.Sink.view c.answer-answered.new.out in
-    let stopped =
-    subst (λ (r : Result Outcome Stop). IfErr r (IsStopFrom (new ≡ old) (LinesOver lines_of_run old new p asked before after) before after)) (sym c.ended.ensures)
-    (ended_stopped old new p asked before after c.answer-answered.result.spent.fills c.answer-answered.result.end c.answer-answered.ensures.end) in
-    of_either (λ form. IfErr c.ended.result (IsStopFrom (new ≡ old) (LinesOver (run_lines form) old new p asked before after) before after)) c.args.form Answers Executed c.in-Answers.is stopped stopped
+    let end = c.answer-answered.result.end in
+    let stopped = ended_stopped old new p asked before after c.answer-answered.result.spent.fills end c.answer-answered.ensures.end in
+    of_either (λ form. IfErr end (IsStopFrom (new ≡ old) (LinesOver (run_lines form) old new p asked before after) before after)) c.args.form Answers Executed c.in-Answers.is stopped stopped
 
 pub returns-in-Counts-clause-stop : goal.returns-in-Counts-clause-stop
 returns-in-Counts-clause-stop g c =
@@ -63,9 +58,9 @@ returns-in-Looped-clause-done g c =
     let asked = c.args.ready.asked in
     let before = g.K.Sink.view c.args.out.now in
     let after = g.K.Sink.view c.answer_looped-answered.new.out in
-    subst (λ (form : RunForm). IfOk c.ended-in-Looped.result (IsDoneAs (LinesOver (run_lines form) old new p asked before after) before after)) (sym c.in-Looped.is)
-    (subst (λ (r : Result Outcome Stop). IfOk r (IsDoneAs (LinesOver lines_of_run old new p asked before after) before after)) (sym c.ended-in-Looped.ensures)
-    (ended_done old new p asked before after c.answer_looped-answered.result.spent.fills c.answer_looped-answered.result.end c.answer_looped-answered.ensures.end))
+    let end = c.answer_looped-answered.result.end in
+    subst (λ (form : RunForm). IfOk end (IsDoneAs (LinesOver (run_lines form) old new p asked before after) before after)) (sym c.in-Looped.is)
+    (ended_done old new p asked before after c.answer_looped-answered.result.spent.fills end c.answer_looped-answered.ensures.end)
 
 pub returns-in-Looped-clause-stop : goal.returns-in-Looped-clause-stop
 returns-in-Looped-clause-stop g c =
@@ -75,6 +70,6 @@ returns-in-Looped-clause-stop g c =
     let asked = c.args.ready.asked in
     let before = g.K.Sink.view c.args.out.now in
     let after = g.K.Sink.view c.answer_looped-answered.new.out in
-    subst (λ (form : RunForm). IfErr c.ended-in-Looped.result (IsStopFrom (new ≡ old) (LinesOver (run_lines form) old new p asked before after) before after)) (sym c.in-Looped.is)
-    (subst (λ (r : Result Outcome Stop). IfErr r (IsStopFrom (new ≡ old) (LinesOver lines_of_run old new p asked before after) before after)) (sym c.ended-in-Looped.ensures)
-    (ended_stopped old new p asked before after c.answer_looped-answered.result.spent.fills c.answer_looped-answered.result.end c.answer_looped-answered.ensures.end))
+    let end = c.answer_looped-answered.result.end in
+    subst (λ (form : RunForm). IfErr end (IsStopFrom (new ≡ old) (LinesOver (run_lines form) old new p asked before after) before after)) (sym c.in-Looped.is)
+    (ended_stopped old new p asked before after c.answer_looped-answered.result.spent.fills end c.answer_looped-answered.ensures.end)
