@@ -1,4 +1,5 @@
 pub mod Causes
+pub mod Fills
 pub mod Opens
 pub mod Plains
 pub mod Views

@@ -1,4 +1,5 @@
 pub mod Causes
+pub mod Fill
 pub mod Open
 pub mod Plain
 pub mod Small

@@ -1,9 +1,7 @@
 // What a source answers.
-ghost use Rattle.std.specs.Prelude.{◌≡◌, ◌+◌, ◌<◌, ◌≤◌, ◌⊎◌, ℕ, true, false, IfOk, OnOk, IsErrOf};
-ghost use Rattle.mix_base.specs.Counts.{HasRisen};
-ghost use Rattle.lxp_core.specs.Open.{closed, weight_of, AllHoles, IsProgress, begins_with_hole};
+ghost use Rattle.std.specs.Prelude.{◌≡◌, ◌<◌, ℕ, true, IfOk};
+ghost use Rattle.lxp_core.specs.Fill.{Answers, IsCounted, IsRefused, source_of};
 ghost use Rattle.lxp_core.specs.Plain.{plain};
-ghost use Rattle.lxp_core.specs.Small.{IsSmall};
 ghost use Rattle.lxp_core.specs.View.{View, Keeps};
 
 use crate::{HoleId, OpenTree, SourceFault};
@@ -33,27 +31,10 @@ pub trait Sources {
     fn fill(&mut self, alloc: Global, s: u32, hole: HoleId) -> Result<Vec<OpenTree>, SourceFault>
         requires { s < (view self.old).count }
         ensures came { came_from self.old self.new }
-        // What the answer promises.
-        ensures closes { IfOk result (λ list. (view self.old).told s ≡ true
-            → closed ((view self.new).forest s) (plain list.items) ≡ (view self.old).forest s hole) }
-        ensures progress { IfOk result (λ list. IsProgress (plain list.items)) }
-        ensures known { IfOk result (λ list. AllHoles ((view self.new).knows s) (plain list.items)) }
-        ensures lighter { IfOk result (λ list.
-            weight_of ((view self.new).weight s) (plain list.items) ≤ (view self.old).weight s hole) }
-        ensures forward { IfOk result (λ list.
-            (view self.old).forward s ≡ true → begins_with_hole (plain list.items) ≡ false) }
-        ensures small { IfOk result (λ list. (view self.old).small s ≡ true → IsSmall (plain list.items)) }
-        // How a fill changes the counts.
-        ensures at_most_one { (view self.new).fills ≤ (view self.old).fills + 1 }
-        ensures counted { OnOk result (HasRisen (view self.old).fills (view self.new).fills) }
-        ensures counted_failed { IsErrOf result SourceFault.Failed
-            → HasRisen (view self.old).fills (view self.new).fills }
-        // For which causes a fill fails.
-        ensures failed { IsErrOf result SourceFault.Failed
-            → HasRisen ((view self.old).faults s) ((view self.new).faults s) }
-        ensures unknown { IsErrOf result SourceFault.UnknownHole → (view self.old).knows s hole ≡ false }
-        ensures only_unknown { (view self.old).knows s hole ≡ false
-            → IsErrOf result SourceFault.UnknownHole ⊎ IsErrOf result SourceFault.OutOfMemory };
+        ensures answers { let before = source_of (view self.old) s in let after = source_of (view self.new) s in
+            IfOk result (λ list. Answers before after hole (plain list.items)) }
+        ensures refused { IsRefused _ (source_of (view self.old) s) (source_of (view self.new) s) hole result }
+        ensures counted { IsCounted _ (view self.old).fills (view self.new).fills result };
 
     /// A state came from itself.
     ghost same: { (a : Self) → came_from a a };

@@ -20,7 +20,7 @@ unreachable-requires g c =
     let e = ap (λ xs. stacked xs nil) c.requires.top.1 ∙ stacked-hole c.requires.top.0 c.args.hole in
     let known = subst (AllHoles ((g.S.Sources.view c.args.s.now).knows c.args.number)) e c.requires.known in
     let k = known.0 in
-    let u = rw c.in-Err-UnknownHole.field-0-is at c.in-Err-UnknownHole.ensures.unknown in
+    let u = rw c.in-Err-UnknownHole.field-0-is at c.in-Err-UnknownHole.ensures.refused.unknown in
     cc (k, u refl)
 
 pub returns-in_err-replace_top-clause-refined : goal.returns-in_err-replace_top-clause-refined
@@ -56,15 +56,15 @@ module _ (g : _) (c : goal.In_ok-replace_top g) where
 
 pub returns-clause-refined : goal.returns-clause-refined
 returns-clause-refined g c =
-    let e = c.in-Ok.ensures in
+    let e = c.in-Ok.ensures.answers in
     rw (was g c, is g c) (filled _ _ _ _ _ _ (keeps g c) (known g c) (apart g c) e.progress e.known e.lighter e.closes)
 
 pub returns-clause-lazy : goal.returns-clause-lazy
 returns-clause-lazy g c =
-    let e = c.in-Ok.ensures in
-    rw (was g c, is g c) (lazily _ _ _ _ _ _ (keeps g c) (known g c) (apart g c) e.progress e.known e.lighter e.forward e.at_most_one)
+    let e = c.in-Ok.ensures.answers in
+    rw (was g c, is g c) (lazily _ _ _ _ _ _ (keeps g c) (known g c) (apart g c) e.progress e.known e.lighter e.forward c.in-Ok.ensures.counted.at_most_one)
 
 pub returns-clause-falls : goal.returns-clause-falls
 returns-clause-falls g c =
-    let e = c.in-Ok.ensures in
+    let e = c.in-Ok.ensures.answers in
     rw (was g c, is g c) (falls _ _ _ _ _ _ (keeps g c) (known g c) (apart g c) e.progress e.known e.lighter)
