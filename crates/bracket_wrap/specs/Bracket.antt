@@ -6,6 +6,7 @@ use Rattle.mix_tree.specs.Forest.{Forest}
 use Rattle.mix_tree.specs.Weight.{nodes_of}
 use Rattle.lxp_core.specs.declared.open_tree.HoleId.{HoleId}
 use Rattle.lxp_core.specs.Open.{Open}
+use Rattle.source_document.specs.Meaning.{IsKept, Meaning, in_memory, in_memory_kept}
 use Rattle.bracket_wrap.specs.declared.bracket.BracketDoc.{BracketDoc}
 use Rattle.document_store.specs.Laid.{below}
 use Rattle.bracket_wrap.specs.Holes.{rest_hole, all_of, is_known, hole_trees, given_from}
@@ -48,3 +49,11 @@ root_known d = there (length d.nodes) (below d.nodes (length d.nodes - 1)) d.roo
   where
     there : (n b : ℕ) → 0 < n → (0 == 0) && (nat_lt (n - 1) n && (nat_le (n - 1 - b) (n - 1) && nat_le (n - 1) (n - 1))) ≡ true
     there n b h = grind (arith, nat_tests)
+
+-- what a bracket document means as a mounted one: it lies in memory
+abbrev pub means : BracketDoc → Meaning
+means d = in_memory (root_hole d) (knows d) (weight d) (forest d)
+
+-- a bracket document means the same over all tables
+pub means_kept : (d : BracketDoc) → IsKept (means d)
+means_kept d = in_memory_kept (root_hole d) (knows d) (weight d) (forest d)

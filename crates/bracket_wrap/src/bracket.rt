@@ -5,7 +5,9 @@ ghost use Rattle.bracket_wrap.specs.Holes.{IsGivable};
 use crate::holes::Rest;
 use document_store::Store;
 use lxp_core::{HoleId, OpenTree, SourceFault};
+use source_document::Document;
 use std::alloc::Global;
+use table_keep::Tables;
 
 /// A document that is given so many children at a time.
 ///
@@ -28,10 +30,10 @@ impl BracketDoc {
     ghost use Rattle.mix_tree.specs.Forest.{LabelledTree, alone};
     ghost use Rattle.document_store.specs.Laid.{IsDocument};
     ghost use Rattle.document_store.specs.Shallow.{IsShallow};
-    ghost use Rattle.lxp_core.specs.Open.{closed, weight_of, AllHoles, IsProgress, begins_with_hole};
+    ghost use Rattle.lxp_core.specs.Fill.{Answers, IsRefusedAtOnce};
     ghost use Rattle.lxp_core.specs.Plain.{plain};
-    ghost use Rattle.lxp_core.specs.Small.{IsSmall};
-    ghost use Rattle.bracket_wrap.specs.Bracket.{chunk_of, deep_of, root_hole, knows, forest, weight, document, given};
+    ghost use Rattle.source_document.specs.Meaning.{without_tables};
+    ghost use Rattle.bracket_wrap.specs.Bracket.{chunk_of, deep_of, root_hole, knows, weight, document, given, means};
 
     /// A document of at most 200 levels, to be given `chunk` children at a time, `deep` or not. A chunk is 1 to 1,000.
     pub fn open(nodes: Store, chunk: u32, deep: bool) -> BracketDoc
@@ -57,22 +59,14 @@ impl BracketDoc {
     /// The list of a hole. `UnknownHole`: the document doesn't know the hole. It never answers `Failed`.
     pub fn fill(&self, alloc: Global, hole: HoleId) -> Result<Vec<OpenTree>, SourceFault>
         ensures list { IfOk result (λ list. plain list.items ≡ given self.now hole) }
-        // What the answer promises.
-        ensures closes { IfOk result (λ list. closed (forest self.now) (plain list.items) ≡ forest self.now hole) }
-        ensures progress { IfOk result (λ list. IsProgress (plain list.items)) }
-        ensures known { IfOk result (λ list. AllHoles (knows self.now) (plain list.items)) }
-        ensures lighter { IfOk result (λ list. weight_of (weight self.now) (plain list.items) ≤ weight self.now hole) }
-        ensures forward { IfOk result (λ list. begins_with_hole (plain list.items) ≡ false) }
-        ensures small { IfOk result (λ list. IsSmall (plain list.items)) }
-        // For which causes a fill fails.
+        ensures answers { let doc = without_tables (means self.now) in IfOk result (λ list. Answers doc doc hole (plain list.items)) }
+        ensures refused { let doc = without_tables (means self.now) in IsRefusedAtOnce _ doc doc hole result }
         ensures never_failed { ¬ IsErrOf result SourceFault.Failed }
-        ensures unknown { IsErrOf result SourceFault.UnknownHole → knows self.now hole ≡ false }
-        ensures only_unknown { knows self.now hole ≡ false → IsErrOf result SourceFault.UnknownHole }
     {
         let Some(rest) = self.rest(hole) else {
             return Err(SourceFault::UnknownHole);
         };
-        Ok(self.give(alloc, self.chunk, self.deep, rest)?)
+        Ok(self.next_children(alloc, self.chunk, self.deep, rest)?)
     }
 
     /// How many nodes a hole stands for; `None` exactly where the document doesn't know the hole. It takes no memory, and no
@@ -86,4 +80,34 @@ impl BracketDoc {
         };
         Some((rest.to - self.nodes.before(rest.node)) as u128)
     }
+}
+
+impl Document for BracketDoc {
+    ghost use Rattle.std.specs.Prelude.{◌≡◌};
+    ghost use Rattle.bracket_wrap.specs.Bracket.{given, means, means_kept, root_known};
+
+    ghost means = { means };
+
+    ghost gives = { λ v d h o. o ≡ given d h };
+
+    fn whole(&self) -> HoleId {
+        self.root_hole()
+    }
+
+    fn give<T: Tables>(
+        &self,
+        alloc: Global,
+        _: &mut T,
+        hole: HoleId,
+    ) -> Result<Vec<OpenTree>, SourceFault> {
+        self.fill(alloc, hole)
+    }
+
+    fn weigh(&self, hole: HoleId) -> Option<u128> {
+        self.weight(hole)
+    }
+
+    ghost kept = { means_kept };
+
+    ghost root_known = { root_known };
 }

@@ -73,13 +73,13 @@ impl BracketDoc {
     }
 
     // The trees between two positions, without holes.
-    fn whole(&self, alloc: Global, from: usize, mut to: usize) -> Result<Vec<OpenTree>, AllocError>
+    fn subtrees(&self, alloc: Global, from: usize, mut to: usize) -> Result<Vec<OpenTree>, AllocError>
         requires { to ≤ length self.now.nodes }
         ensures { IfOk result (λ list. plain list.items ≡ without_holes (between self.now.nodes from to)) }
     {
         let mut list = Vec::with_capacity(alloc, self.count(from, to, u32::MAX))?;
         while let Some(i) = self.nodes.first(from, to) {
-            let kids = self.whole(alloc, self.nodes.before(i), i)?;
+            let kids = self.subtrees(alloc, self.nodes.before(i), i)?;
             self.push_node(alloc, &mut list, i, kids)?;
             to = self.nodes.before(i);
         }
@@ -116,7 +116,7 @@ impl BracketDoc {
         ensures { IfOk result (λ list. plain list.items ≡ kids_given self.now.nodes whole i) }
     {
         if whole {
-            return self.whole(alloc, from, i);
+            return self.subtrees(alloc, from, i);
         }
         match self.nodes.first(from, i) {
             Some(_) => Ok(vec![in alloc; OpenTree::Hole(Rest { node: i, to: i }.hole())]?),
@@ -141,7 +141,7 @@ impl BracketDoc {
 
     /// The next of some last children of a node, at most `most`, each whole or with a hole below it where it has children,
     /// and a hole after them where more remain.
-    pub fn give(
+    pub fn next_children(
         &self,
         alloc: Global,
         most: u32,

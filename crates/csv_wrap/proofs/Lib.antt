@@ -1,3 +1,4 @@
+pub mod Answering
 pub mod FieldFacts
 pub mod PrefixFacts
 pub mod Given

@@ -4,6 +4,7 @@ use Rattle.mix_tree.specs.Forest.{Forest, none, alone}
 use Rattle.mix_tree.specs.Weight.{nodes_of}
 use Rattle.lxp_core.specs.declared.open_tree.HoleId.{HoleId}
 use Rattle.lxp_core.specs.Open.{Open, nil, node, hole, open_followed, without_holes}
+use Rattle.source_document.specs.Meaning.{IsKept, Meaning, in_memory, in_memory_kept}
 use Rattle.csv_wrap.specs.declared.document.CsvDoc.{CsvDoc}
 use Rattle.csv_wrap.specs.declared.parts.Part.{Part}
 use Rattle.csv_wrap.specs.declared.parts.Part.TheVariants.{Name, RowsFrom}
@@ -73,3 +74,11 @@ given d h = part_given d (part_of h)
 -- a CSV document knows the hole of its root
 pub root_known : (d : CsvDoc) → knows d (root_hole d) ≡ true
 root_known d = refl
+
+-- what a CSV document means as a mounted one: it lies in memory
+abbrev pub means : CsvDoc → Meaning
+means d = in_memory (root_hole d) (knows d) (weight d) (forest d)
+
+-- a CSV document means the same over all tables
+pub means_kept : (d : CsvDoc) → IsKept (means d)
+means_kept d = in_memory_kept (root_hole d) (knows d) (weight d) (forest d)

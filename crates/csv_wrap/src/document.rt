@@ -8,7 +8,9 @@ use crate::reading::read_rows;
 use crate::table::{Table, copy_columns, copy_short};
 use lxp_core::{HoleId, OpenTree, SourceFault};
 use mix_tree::Label;
+use source_document::Document;
 use std::alloc::Global;
+use table_keep::Tables;
 
 /// The document of a CSV file, which is given so many rows at a time.
 ///
@@ -31,12 +33,12 @@ pub struct CsvDoc {
 impl CsvDoc {
     ghost use Rattle.std.specs.Prelude.{ℕ, List, true, false, IfOk, IfErr, IsErrOf, MatchOption};
     ghost use Rattle.mix_tree.specs.Forest.{alone};
-    ghost use Rattle.lxp_core.specs.Open.{closed, weight_of, AllHoles, IsProgress, begins_with_hole};
+    ghost use Rattle.lxp_core.specs.Fill.{Answers, IsRefusedAtOnce};
     ghost use Rattle.lxp_core.specs.Plain.{plain};
-    ghost use Rattle.lxp_core.specs.Small.{IsSmall};
+    ghost use Rattle.source_document.specs.Meaning.{without_tables};
     ghost use Rattle.csv_wrap.specs.Csv.{Explains, IsFile};
     ghost use Rattle.csv_wrap.specs.Rows.{file_tree};
-    ghost use Rattle.csv_wrap.specs.Document.{chunk_of, root_hole, knows, forest, weight, document, given};
+    ghost use Rattle.csv_wrap.specs.Document.{chunk_of, root_hole, knows, weight, document, given, means};
 
     /// The document of a file with these columns, as a source of this name, to be given `chunk` rows at a time
     /// (docs/FORMATS.md, "CSV files"). A chunk is 1 to 1,000. An error says why the file is none, or that memory ran out, as
@@ -77,22 +79,14 @@ impl CsvDoc {
     /// The list of a hole. `UnknownHole`: the document doesn't know the hole. It never answers `Failed`.
     pub fn fill(&self, alloc: Global, hole: HoleId) -> Result<Vec<OpenTree>, SourceFault>
         ensures list { IfOk result (λ list. plain list.items ≡ given self.now hole) }
-        // What the answer promises.
-        ensures closes { IfOk result (λ list. closed (forest self.now) (plain list.items) ≡ forest self.now hole) }
-        ensures progress { IfOk result (λ list. IsProgress (plain list.items)) }
-        ensures known { IfOk result (λ list. AllHoles (knows self.now) (plain list.items)) }
-        ensures lighter { IfOk result (λ list. weight_of (weight self.now) (plain list.items) ≤ weight self.now hole) }
-        ensures forward { IfOk result (λ list. begins_with_hole (plain list.items) ≡ false) }
-        ensures small { IfOk result (λ list. IsSmall (plain list.items)) }
-        // For which causes a fill fails.
+        ensures answers { let doc = without_tables (means self.now) in IfOk result (λ list. Answers doc doc hole (plain list.items)) }
+        ensures refused { let doc = without_tables (means self.now) in IsRefusedAtOnce _ doc doc hole result }
         ensures never_failed { ¬ IsErrOf result SourceFault.Failed }
-        ensures unknown { IsErrOf result SourceFault.UnknownHole → knows self.now hole ≡ false }
-        ensures only_unknown { knows self.now hole ≡ false → IsErrOf result SourceFault.UnknownHole }
     {
         let Some(part) = self.part(hole) else {
             return Err(SourceFault::UnknownHole);
         };
-        Ok(self.give(alloc, part)?)
+        Ok(self.give_part(alloc, part)?)
     }
 
     /// How many nodes a hole stands for; `None` exactly where the document doesn't know the hole. It takes no memory, and no
@@ -106,4 +100,34 @@ impl CsvDoc {
         };
         Some(self.part_weight(part))
     }
+}
+
+impl Document for CsvDoc {
+    ghost use Rattle.std.specs.Prelude.{◌≡◌};
+    ghost use Rattle.csv_wrap.specs.Document.{given, means, means_kept, root_known};
+
+    ghost means = { means };
+
+    ghost gives = { λ v d h o. o ≡ given d h };
+
+    fn whole(&self) -> HoleId {
+        self.root_hole()
+    }
+
+    fn give<T: Tables>(
+        &self,
+        alloc: Global,
+        _: &mut T,
+        hole: HoleId,
+    ) -> Result<Vec<OpenTree>, SourceFault> {
+        self.fill(alloc, hole)
+    }
+
+    fn weigh(&self, hole: HoleId) -> Option<u128> {
+        self.weight(hole)
+    }
+
+    ghost kept = { means_kept };
+
+    ghost root_known = { root_known };
 }

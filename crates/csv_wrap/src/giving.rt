@@ -146,7 +146,7 @@ impl CsvDoc {
     }
 
     /// The list that answers a fill of a part of the document.
-    pub fn give(&self, alloc: Global, part: Part) -> Result<Vec<OpenTree>, AllocError>
+    pub fn give_part(&self, alloc: Global, part: Part) -> Result<Vec<OpenTree>, AllocError>
         requires { has_part self.now (Some part) ≡ true }
         ensures { IfOk result (λ list. plain list.items ≡ part_given self.now (Some part)) }
     {

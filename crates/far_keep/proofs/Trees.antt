@@ -3,7 +3,7 @@ use Rattle.std.proofs.Common.{◌≡◌, ◌+◌, ◌<◌, ◌≤◌, ◌∙◌,
 use Rattle.std.proofs.lemmas.List.{take_more}
 use Rattle.mix_tree.specs.Forest.{Forest, LabelledTree, none, tree, alone, followed, forest_of}
 use Rattle.mix_tree.specs.Weight.{nodes_of, tree_nodes}
-use Rattle.lxp_core.specs.Open.{IsProgress, node, open_followed, without_holes}
+use Rattle.lxp_core.specs.Open.{begins_with_hole, IsProgress, node, open_followed, without_holes}
 use Rattle.lxp_core.proofs.Opens.{IsApart-without_holes, forest_of-append}
 
 -- the nodes of the trees from one on are those of that tree and those of the trees after it
@@ -39,3 +39,8 @@ without_holes_next ts i t h e =
 pub progress-without_holes : (f : Forest) → IsProgress (without_holes f)
 progress-without_holes none = record { top = λ some. (let c : true ≡ false = some in cc); apart = tt }
 progress-without_holes (tree label kids rest) = record { top = λ some. refl; apart = IsApart-without_holes (tree label kids rest) }
+
+-- a list without holes begins with none
+pub no_hole_first : (f : Forest) → begins_with_hole (without_holes f) ≡ false
+no_hole_first none = refl
+no_hole_first (tree label kids rest) = refl

@@ -2,6 +2,7 @@
 use Rattle.std.specs.Prelude.{◌≡◌, ◌≤◌, ◌-◌, ◌^◌, ℕ, Bool, true, [], ◌∷◌}
 use Rattle.mix_tree.specs.Forest.{Forest}
 use Rattle.lxp_core.specs.declared.open_tree.HoleId.{HoleId}
+use Rattle.lxp_core.specs.Fill.{Piecewise}
 use Rattle.far_keep.specs.declared.far_source.FarSource.{FarSource}
 
 -- the hole that stands for the whole document of a far source, whichever it is: each of its words is 2^64 - 1
@@ -24,6 +25,18 @@ pub record FarsView : Type 0 where
 -- the document of a far source that tells it, as a list of trees
 abbrev pub document : FarsView → FarSource → Forest
 document v far = v.forest far far_root
+
+-- the document of a far source, given piece by piece: each list is small, and none of a told one begins with a hole
+abbrev pub far_document : FarsView → FarSource → Piecewise
+far_document v far = record {
+  told = v.told far;
+  knows = v.knows far;
+  forest = v.forest far;
+  weight = v.weight far;
+  forward = v.told far;
+  small = true;
+  faults = v.faults far;
+}
 
 -- what every call keeps of far sources: what is told, and each known hole and its meaning; no count of faults falls
 pub record KeepsFars (old new : FarsView) : Type 0 where

@@ -1,11 +1,9 @@
 // What a far source answers.
-ghost use Rattle.std.specs.Prelude.{◌≡◌, ◌≤◌, ◌⊎◌, true, false, IfOk, IsErrOf, MatchOption};
-ghost use Rattle.mix_base.specs.Counts.{HasRisen};
-ghost use Rattle.lxp_core.specs.Open.{closed, weight_of, AllHoles, IsProgress, begins_with_hole};
+ghost use Rattle.std.specs.Prelude.{◌≡◌, true, false, IfOk, MatchOption};
+ghost use Rattle.lxp_core.specs.Fill.{Answers, IsRefused};
 ghost use Rattle.lxp_core.specs.Plain.{plain};
-ghost use Rattle.lxp_core.specs.Small.{IsSmall};
 ghost use Rattle.far_keep.specs.declared.far_source.FarSource.{FarSource};
-ghost use Rattle.far_keep.specs.Views.{FarsView, KeepsFars, far_root};
+ghost use Rattle.far_keep.specs.Views.{FarsView, KeepsFars, far_document, far_root};
 
 use crate::FarSource;
 use lxp_core::{HoleId, OpenTree, SourceFault};
@@ -26,22 +24,9 @@ pub trait Fars {
         hole: HoleId,
     ) -> Result<Vec<OpenTree>, SourceFault>
         ensures keeps { KeepsFars (view self.old) (view self.new) }
-        // What the answer promises.
-        ensures closes { IfOk result (λ list. (view self.old).told far.now ≡ true
-            → closed ((view self.new).forest far.now) (plain list.items) ≡ (view self.old).forest far.now hole) }
-        ensures progress { IfOk result (λ list. IsProgress (plain list.items)) }
-        ensures known { IfOk result (λ list. AllHoles ((view self.new).knows far.now) (plain list.items)) }
-        ensures lighter { IfOk result (λ list.
-            weight_of ((view self.new).weight far.now) (plain list.items) ≤ (view self.old).weight far.now hole) }
-        ensures forward { IfOk result (λ list.
-            (view self.old).told far.now ≡ true → begins_with_hole (plain list.items) ≡ false) }
-        ensures small { IfOk result (λ list. IsSmall (plain list.items)) }
-        // For which causes a fill fails.
-        ensures failed { IsErrOf result SourceFault.Failed
-            → HasRisen ((view self.old).faults far.now) ((view self.new).faults far.now) }
-        ensures unknown { IsErrOf result SourceFault.UnknownHole → (view self.old).knows far.now hole ≡ false }
-        ensures only_unknown { (view self.old).knows far.now hole ≡ false
-            → IsErrOf result SourceFault.UnknownHole ⊎ IsErrOf result SourceFault.OutOfMemory };
+        ensures answers { let before = far_document (view self.old) far.now in let after = far_document (view self.new) far.now in
+            IfOk result (λ list. Answers before after hole (plain list.items)) }
+        ensures refused { IsRefused _ (far_document (view self.old) far.now) (far_document (view self.new) far.now) hole result };
 
     /// The weight of a hole of a far source; `None` exactly where the source doesn't know the hole.
     fn weight(&self, far: &FarSource, hole: HoleId) -> Option<u128>

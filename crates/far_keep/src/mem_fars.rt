@@ -58,15 +58,14 @@ impl MemFars {
 }
 
 impl Fars for MemFars {
-    ghost use Rattle.std.specs.Prelude.{◌≡◌, ◌≢◌, ◌≤◌, ◌⊎◌, true, false, IfOk, IsErrOf};
-    ghost use Rattle.mix_base.specs.Counts.{HasRisen};
-    ghost use Rattle.lxp_core.specs.Open.{closed, weight_of, AllHoles, IsProgress, begins_with_hole, without_holes};
+    ghost use Rattle.std.specs.Prelude.{◌≡◌, ◌≢◌, true, IfOk, IsErrOf};
+    ghost use Rattle.lxp_core.specs.Fill.{Answers, IsRefused};
+    ghost use Rattle.lxp_core.specs.Open.{without_holes};
     ghost use Rattle.lxp_core.specs.Plain.{plain};
-    ghost use Rattle.lxp_core.specs.Small.{IsSmall};
     ghost use Rattle.far_keep.specs.declared.far_source.FarSource.{FarSource};
     ghost use Rattle.far_keep.specs.Listed.{place_of};
     ghost use Rattle.far_keep.specs.Memory.{calls_of, fails_next, fars_of, mem_fars_view, next_call, root_is_known};
-    ghost use Rattle.far_keep.specs.Views.{KeepsFars, document};
+    ghost use Rattle.far_keep.specs.Views.{KeepsFars, document, far_document};
 
     ghost view = { mem_fars_view };
 
@@ -77,24 +76,13 @@ impl Fars for MemFars {
         hole: HoleId,
     ) -> Result<Vec<OpenTree>, SourceFault>
         ensures keeps { KeepsFars (mem_fars_view self.old) (mem_fars_view self.new) }
-        // What the answer promises.
-        ensures closes { let old = mem_fars_view self.old in let new = mem_fars_view self.new in
-            IfOk result (λ list. old.told far.now ≡ true
-            → closed (new.forest far.now) (plain list.items) ≡ old.forest far.now hole) }
-        ensures progress { IfOk result (λ list. IsProgress (plain list.items)) }
-        ensures known { IfOk result (λ list. AllHoles ((mem_fars_view self.new).knows far.now) (plain list.items)) }
-        ensures lighter { let old = mem_fars_view self.old in let new = mem_fars_view self.new in
-            IfOk result (λ list. weight_of (new.weight far.now) (plain list.items) ≤ old.weight far.now hole) }
-        ensures forward { IfOk result (λ list.
-            (mem_fars_view self.old).told far.now ≡ true → begins_with_hole (plain list.items) ≡ false) }
-        ensures small { IfOk result (λ list. IsSmall (plain list.items)) }
+        ensures answers { let before = far_document (mem_fars_view self.old) far.now in
+            let after = far_document (mem_fars_view self.new) far.now in
+            IfOk result (λ list. Answers before after hole (plain list.items)) }
+        ensures refused { let before = far_document (mem_fars_view self.old) far.now in
+            let after = far_document (mem_fars_view self.new) far.now in
+            IsRefused _ before after hole result }
         ensures whole { IfOk result (λ list. plain list.items ≡ without_holes (document (mem_fars_view self.old) far.now)) }
-        // For which causes a fill fails.
-        ensures failed { IsErrOf result SourceFault.Failed
-            → HasRisen ((mem_fars_view self.old).faults far.now) ((mem_fars_view self.new).faults far.now) }
-        ensures unknown { IsErrOf result SourceFault.UnknownHole → (mem_fars_view self.old).knows far.now hole ≡ false }
-        ensures only_unknown { (mem_fars_view self.old).knows far.now hole ≡ false
-            → IsErrOf result SourceFault.UnknownHole ⊎ IsErrOf result SourceFault.OutOfMemory }
         // Which fills fail, and that no others count as faults.
         ensures named { IsErrOf result SourceFault.Failed → fails_next self.old far.now ≡ true }
         ensures fails { (mem_fars_view self.old).knows far.now hole ≡ true → fails_next self.old far.now ≡ true

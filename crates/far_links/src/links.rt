@@ -50,14 +50,12 @@ impl<L: Link, D> FarLinks<L, D> {
 }
 
 impl<L: Link + Drop, D: Dial<L>> Fars for FarLinks<L, D> {
-    ghost use Rattle.std.specs.Prelude.{◌≡◌, ◌≤◌, ◌⊎◌, true, false, Some, IfOk, IsErrOf};
-    ghost use Rattle.mix_base.specs.Counts.{HasRisen};
-    ghost use Rattle.lxp_core.specs.Open.{closed, weight_of, AllHoles, IsProgress, begins_with_hole};
+    ghost use Rattle.std.specs.Prelude.{◌≡◌, false, Some, IfOk, IsErrOf};
+    ghost use Rattle.lxp_core.specs.Fill.{Answers, IsRefused};
     ghost use Rattle.lxp_core.specs.Plain.{plain};
-    ghost use Rattle.lxp_core.specs.Small.{IsSmall};
     ghost use Rattle.far_keep.specs.declared.far_source.FarSource.{FarSource as Source};
     ghost use Rattle.far_keep.specs.Names.{is_same};
-    ghost use Rattle.far_keep.specs.Views.{KeepsFars};
+    ghost use Rattle.far_keep.specs.Views.{KeepsFars, far_document};
     ghost use Rattle.far_links.specs.declared.fault.FarFault.{FarFault as Cause};
     ghost use Rattle.far_links.specs.Failing.{HasFailed};
     ghost use Rattle.far_links.specs.Links.{last_of, links_view, root_is_known, standing_of};
@@ -71,26 +69,15 @@ impl<L: Link + Drop, D: Dial<L>> Fars for FarLinks<L, D> {
         hole: HoleId,
     ) -> Result<Vec<OpenTree>, SourceFault>
         ensures keeps { KeepsFars (links_view L.view self.old) (links_view L.view self.new) }
-        // What the answer promises.
-        ensures closes { let old = links_view L.view self.old in let new = links_view L.view self.new in
-            IfOk result (λ list. old.told far.now ≡ true
-            → closed (new.forest far.now) (plain list.items) ≡ old.forest far.now hole) }
-        ensures progress { IfOk result (λ list. IsProgress (plain list.items)) }
-        ensures known { IfOk result (λ list. AllHoles ((links_view L.view self.new).knows far.now) (plain list.items)) }
-        ensures lighter { let old = links_view L.view self.old in let new = links_view L.view self.new in
-            IfOk result (λ list. weight_of (new.weight far.now) (plain list.items) ≤ old.weight far.now hole) }
-        ensures forward { IfOk result (λ list.
-            (links_view L.view self.old).told far.now ≡ true → begins_with_hole (plain list.items) ≡ false) }
-        ensures small { IfOk result (λ list. IsSmall (plain list.items)) }
-        // For which causes a fill fails.
-        ensures failed { IsErrOf result SourceFault.Failed
-            → HasRisen ((links_view L.view self.old).faults far.now) ((links_view L.view self.new).faults far.now) }
+        ensures answers { let before = far_document (links_view L.view self.old) far.now in
+            let after = far_document (links_view L.view self.new) far.now in
+            IfOk result (λ list. Answers before after hole (plain list.items)) }
+        ensures refused { let before = far_document (links_view L.view self.old) far.now in
+            let after = far_document (links_view L.view self.new) far.now in
+            IsRefused _ before after hole result }
         ensures named { let old = standing_of L.view self.old far.now in let new = standing_of L.view self.new far.now in
             IsErrOf result SourceFault.Failed
             → (cause : Cause) × (last_of self.new far.now ≡ Some cause) × HasFailed old new far.now.number hole cause }
-        ensures unknown { IsErrOf result SourceFault.UnknownHole → (links_view L.view self.old).knows far.now hole ≡ false }
-        ensures only_unknown { (links_view L.view self.old).knows far.now hole ≡ false
-            → IsErrOf result SourceFault.UnknownHole ⊎ IsErrOf result SourceFault.OutOfMemory }
         // What counts no fault.
         ensures steady { ¬ IsErrOf result SourceFault.Failed → (other : Source)
             → ((links_view L.view self.new).faults other ≡ (links_view L.view self.old).faults other)

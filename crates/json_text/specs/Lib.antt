@@ -1,2 +1,4 @@
 pub mod Answers
+pub mod Said
+pub mod Stands
 pub mod Trees

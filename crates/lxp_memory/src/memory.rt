@@ -116,11 +116,9 @@ impl MemSources {
 }
 
 impl Sources for MemSources {
-    ghost use Rattle.std.specs.Prelude.{◌≡◌, ◌≢◌, ◌+◌, ◌≤◌, ◌⊎◌, ℕ, true, false, length, IfOk, OnOk, OnErr, IsErrOf};
-    ghost use Rattle.mix_base.specs.Counts.{HasRisen};
-    ghost use Rattle.lxp_core.specs.Open.{closed, weight_of, AllHoles, IsProgress, begins_with_hole};
+    ghost use Rattle.std.specs.Prelude.{◌≡◌, ◌≢◌, ℕ, true, length, IfOk, OnOk, OnErr, IsErrOf};
+    ghost use Rattle.lxp_core.specs.Fill.{Answers, IsCounted, IsRefused, source_of};
     ghost use Rattle.lxp_core.specs.Plain.{plain};
-    ghost use Rattle.lxp_core.specs.Small.{IsSmall};
     ghost use Rattle.lxp_memory.specs.Choice.{turn_after};
     ghost use Rattle.lxp_memory.specs.Memory.{memory_view, CameFrom, fails_next, choices_of, turn_of, next_list};
     ghost use Rattle.lxp_memory.specs.MemoryLaws.{came_same, came_after, came_keeps, root_is_known};
@@ -140,34 +138,19 @@ impl Sources for MemSources {
     fn fill(&mut self, alloc: Global, s: u32, hole: HoleId) -> Result<Vec<OpenTree>, SourceFault>
         requires { s < (memory_view self.old).count }
         ensures came { CameFrom self.old self.new }
-        // What the answer promises.
-        ensures closes { let old = memory_view self.old in let new = memory_view self.new in
-            IfOk result (λ list. old.told s ≡ true → closed (new.forest s) (plain list.items) ≡ old.forest s hole) }
-        ensures progress { IfOk result (λ list. IsProgress (plain list.items)) }
-        ensures known { IfOk result (λ list. AllHoles ((memory_view self.new).knows s) (plain list.items)) }
-        ensures lighter { IfOk result (λ list.
-            weight_of ((memory_view self.new).weight s) (plain list.items) ≤ (memory_view self.old).weight s hole) }
-        ensures forward { IfOk result (λ list.
-            (memory_view self.old).forward s ≡ true → begins_with_hole (plain list.items) ≡ false) }
-        ensures small { IfOk result (λ list. (memory_view self.old).small s ≡ true → IsSmall (plain list.items)) }
+        ensures answers { let before = source_of (memory_view self.old) s in let after = source_of (memory_view self.new) s in
+            IfOk result (λ list. Answers before after hole (plain list.items)) }
+        ensures refused { IsRefused _ (source_of (memory_view self.old) s) (source_of (memory_view self.new) s) hole result }
+        ensures counted { IsCounted _ (memory_view self.old).fills (memory_view self.new).fills result }
+        // Which list is given, and by which byte of the circle it is cut.
         ensures list { IfOk result (λ list. plain list.items ≡ next_list self.old s hole) }
-        // How a fill changes the counts.
-        ensures at_most_one { (memory_view self.new).fills ≤ (memory_view self.old).fills + 1 }
-        ensures counted { OnOk result (HasRisen (memory_view self.old).fills (memory_view self.new).fills) }
-        ensures counted_failed { IsErrOf result SourceFault.Failed
-            → HasRisen (memory_view self.old).fills (memory_view self.new).fills }
         ensures turn { OnOk result (turn_of self.new ≡ turn_after (length (choices_of self.old)) (turn_of self.old)) }
         ensures same_turn { OnErr result (turn_of self.new ≡ turn_of self.old) }
-        // For which causes a fill fails.
-        ensures failed { IsErrOf result SourceFault.Failed
-            → HasRisen ((memory_view self.old).faults s) ((memory_view self.new).faults s) }
+        // Which fills fail, and that no other source counts a fault.
         ensures others { (r : ℕ) → r ≢ s → (memory_view self.new).faults r ≡ (memory_view self.old).faults r }
         ensures named { IsErrOf result SourceFault.Failed → fails_next self.old ≡ true }
         ensures fails { (memory_view self.old).knows s hole ≡ true → fails_next self.old ≡ true
             → IsErrOf result SourceFault.Failed }
-        ensures unknown { IsErrOf result SourceFault.UnknownHole → (memory_view self.old).knows s hole ≡ false }
-        ensures only_unknown { (memory_view self.old).knows s hole ≡ false
-            → IsErrOf result SourceFault.UnknownHole ⊎ IsErrOf result SourceFault.OutOfMemory }
     {
         let Some(span) = self.docs[s as usize].span(hole) else {
             return Err(SourceFault::UnknownHole);

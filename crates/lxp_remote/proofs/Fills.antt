@@ -9,6 +9,7 @@ use Rattle.lxp_core.specs.declared.open_tree.HoleId.{HoleId}
 use Rattle.lxp_core.specs.declared.open_tree.OpenTree.{OpenTree}
 use Rattle.lxp_core.specs.declared.fault.SourceFault.{SourceFault}
 use Rattle.lxp_core.specs.declared.fault.SourceFault.TheVariants.{Failed, UnknownHole, OutOfMemory}
+use Rattle.lxp_core.specs.Fill.{Answers, source_of}
 use Rattle.lxp_core.specs.Open.{closed, weight_of, AllHoles, IsProgress, begins_with_hole}
 use Rattle.lxp_core.specs.Plain.{plain}
 use Rattle.lxp_core.specs.Small.{IsSmall}
@@ -161,7 +162,7 @@ both_true false b e = absurd cc
 
 module _ (v w : LinkView) (before after : List Peer) (m n s : ℕ) (h : HoleId) where
   -- the list that a fill gives closes to what its hole stands for
-  pub closes_filled : (a : Answered) → v.told ≡ w.told → GivesTaken v w (slice_get before s) (slice_get after s) s h a
+  closes_filled : (a : Answered) → v.told ≡ w.told → GivesTaken v w (slice_get before s) (slice_get after s) s h a
       → IfOk a (λ list. (view_of (remoting v before m)).told s ≡ true → closed ((view_of (remoting w after n)).forest s) (plain list.items) ≡ (view_of (remoting v before m)).forest s h)
   closes_filled (Err e) same t = tt
   closes_filled (Ok list) same t = λ tells.
@@ -173,19 +174,19 @@ module _ (v w : LinkView) (before after : List Peer) (m n s : ℕ) (h : HoleId) 
       ∙ sym (ap (λ (f : HoleId → Forest). f h) (told_forest v.told (v.peer.forest s) both.0))
 
   -- it keeps progress
-  pub progress_filled : (a : Answered) → GivesTaken v w (slice_get before s) (slice_get after s) s h a → IfOk a (λ list. IsProgress (plain list.items))
+  progress_filled : (a : Answered) → GivesTaken v w (slice_get before s) (slice_get after s) s h a → IfOk a (λ list. IsProgress (plain list.items))
   progress_filled (Err e) t = tt
   progress_filled (Ok list) t = subst IsProgress (sym t.2.same) t.2.rules.0
 
   -- its holes are known
-  pub known_filled : (a : Answered) → GivesTaken v w (slice_get before s) (slice_get after s) s h a → IfOk a (λ list. AllHoles ((view_of (remoting w after n)).knows s) (plain list.items))
+  known_filled : (a : Answered) → GivesTaken v w (slice_get before s) (slice_get after s) s h a → IfOk a (λ list. AllHoles ((view_of (remoting w after n)).knows s) (plain list.items))
   known_filled (Err e) t = tt
   known_filled (Ok list) t =
       let test = λ (i : HoleId). has_weight (known_in (slice_get after s) i) in
       subst (AllHoles test) (sym t.2.same) (all_holes test t.2.wired (λ i x c. ap has_weight (t.2.learns.learned i x c)))
 
   -- it weighs no more than its hole
-  pub lighter_filled : (a : Answered) → GivesTaken v w (slice_get before s) (slice_get after s) s h a
+  lighter_filled : (a : Answered) → GivesTaken v w (slice_get before s) (slice_get after s) s h a
       → IfOk a (λ list. weight_of ((view_of (remoting w after n)).weight s) (plain list.items) ≤ (view_of (remoting v before m)).weight s h)
   lighter_filled (Err e) t = tt
   lighter_filled (Ok list) t =
@@ -195,12 +196,25 @@ module _ (v w : LinkView) (before after : List Peer) (m n s : ℕ) (h : HoleId) 
       subst (λ o. weight_of weight o ≤ weight_or (known_in (slice_get before s) h)) (sym t.2.same) (omega (arith, total, t.2.rules.1, asked))
 
   -- it begins with no hole where the peer's source is forward
-  pub forward_filled : (a : Answered) → GivesTaken v w (slice_get before s) (slice_get after s) s h a
+  forward_filled : (a : Answered) → GivesTaken v w (slice_get before s) (slice_get after s) s h a
       → IfOk a (λ list. (view_of (remoting v before m)).forward s ≡ true → begins_with_hole (plain list.items) ≡ false)
   forward_filled (Err e) t = tt
   forward_filled (Ok list) t = λ f. let both = both_true v.told (v.peer.forward s) f in ap begins_with_hole t.2.same ∙ (t.2.told both.0).answers.2.forward both.1
 
   -- it is small enough for a wire
-  pub small_filled : (a : Answered) → GivesTaken v w (slice_get before s) (slice_get after s) s h a → IfOk a (λ list. IsSmall (plain list.items))
+  small_filled : (a : Answered) → GivesTaken v w (slice_get before s) (slice_get after s) s h a → IfOk a (λ list. IsSmall (plain list.items))
   small_filled (Err e) t = tt
   small_filled (Ok list) t = t.2.small
+
+  -- a list that came answers the fill
+  pub answers_filled : (a : Answered) → v.told ≡ w.told → GivesTaken v w (slice_get before s) (slice_get after s) s h a
+      → IfOk a (λ list. Answers (source_of (view_of (remoting v before m)) s) (source_of (view_of (remoting w after n)) s) h (plain list.items))
+  answers_filled (Err e) same t = tt
+  answers_filled (Ok list) same t = record {
+    closes = closes_filled (Ok list) same t;
+    progress = progress_filled (Ok list) t;
+    known = known_filled (Ok list) t;
+    lighter = lighter_filled (Ok list) t;
+    forward = forward_filled (Ok list) t;
+    small = λ e. small_filled (Ok list) t;
+  }

@@ -71,11 +71,9 @@ impl<L: Link> Remote<L> {
 }
 
 impl<L: Link> Sources for Remote<L> {
-    ghost use Rattle.std.specs.Prelude.{◌≡◌, ◌≢◌, ◌<◌, ◌+◌, ◌≤◌, ◌⊎◌, ℕ, true, false, slice_get, IfOk, OnOk, IsErrOf};
-    ghost use Rattle.mix_base.specs.Counts.{HasRisen};
-    ghost use Rattle.lxp_core.specs.Open.{closed, weight_of, AllHoles, IsProgress, begins_with_hole};
+    ghost use Rattle.std.specs.Prelude.{◌≡◌, ◌≢◌, ◌<◌, ℕ, slice_get, IfOk, IsErrOf};
+    ghost use Rattle.lxp_core.specs.Fill.{Answers, IsCounted, IsRefused, source_of};
     ghost use Rattle.lxp_core.specs.Plain.{plain};
-    ghost use Rattle.lxp_core.specs.Small.{IsSmall};
     ghost use Rattle.lxp_remote.specs.Filled.{IsFilled, NamesCause};
     ghost use Rattle.lxp_remote.specs.Remotes.{remoting, view_of, CameFrom};
     ghost use Rattle.lxp_remote.specs.RemoteLaws.{came_same, came_after, root_is_known};
@@ -98,37 +96,20 @@ impl<L: Link> Sources for Remote<L> {
         ensures came { L.came_from self.old.link self.new.link
             × CameFrom (remoting (L.view self.old.link) self.old.peers.items self.old.fills)
             (remoting (L.view self.new.link) self.new.peers.items self.new.fills) }
-        // What the answer promises.
         ensures filled { IsFilled (L.view self.old.link) (L.view self.new.link)
             (slice_get self.old.peers.items s) (slice_get self.new.peers.items s) s hole result }
-        ensures closes { let old = view_of (remoting (L.view self.old.link) self.old.peers.items self.old.fills) in
+        ensures answers { let old = view_of (remoting (L.view self.old.link) self.old.peers.items self.old.fills) in
             let new = view_of (remoting (L.view self.new.link) self.new.peers.items self.new.fills) in
-            IfOk result (λ list. old.told s ≡ true → closed (new.forest s) (plain list.items) ≡ old.forest s hole) }
-        ensures progress { IfOk result (λ list. IsProgress (plain list.items)) }
-        ensures known { let new = view_of (remoting (L.view self.new.link) self.new.peers.items self.new.fills) in
-            IfOk result (λ list. AllHoles (new.knows s) (plain list.items)) }
-        ensures lighter { let old = view_of (remoting (L.view self.old.link) self.old.peers.items self.old.fills) in
+            IfOk result (λ list. Answers (source_of old s) (source_of new s) hole (plain list.items)) }
+        ensures refused { let old = view_of (remoting (L.view self.old.link) self.old.peers.items self.old.fills) in
             let new = view_of (remoting (L.view self.new.link) self.new.peers.items self.new.fills) in
-            IfOk result (λ list. weight_of (new.weight s) (plain list.items) ≤ old.weight s hole) }
-        ensures forward { let old = view_of (remoting (L.view self.old.link) self.old.peers.items self.old.fills) in
-            IfOk result (λ list. old.forward s ≡ true → begins_with_hole (plain list.items) ≡ false) }
-        ensures small { IfOk result (λ list. IsSmall (plain list.items)) }
-        // How a fill changes the counts.
-        ensures at_most_one { self.new.fills ≤ self.old.fills + 1 }
-        ensures counted { OnOk result (HasRisen self.old.fills self.new.fills) }
-        ensures counted_failed { IsErrOf result SourceFault.Failed → HasRisen self.old.fills self.new.fills }
-        // For which causes a fill fails.
-        ensures failed { let old = view_of (remoting (L.view self.old.link) self.old.peers.items self.old.fills) in
-            let new = view_of (remoting (L.view self.new.link) self.new.peers.items self.new.fills) in
-            IsErrOf result SourceFault.Failed → HasRisen (old.faults s) (new.faults s) }
+            IsRefused _ (source_of old s) (source_of new s) hole result }
+        ensures counted { IsCounted _ self.old.fills self.new.fills result }
+        // Why the source failed, and that no other was filled.
         ensures named { let old = remoting (L.view self.old.link) self.old.peers.items self.old.fills in
             let new = remoting (L.view self.new.link) self.new.peers.items self.new.fills in
             IsErrOf result SourceFault.Failed → NamesCause old new s hole }
         ensures others { (r : ℕ) → r ≢ s → slice_get self.new.peers.items r ≡ slice_get self.old.peers.items r }
-        ensures unknown { let old = view_of (remoting (L.view self.old.link) self.old.peers.items self.old.fills) in
-            IsErrOf result SourceFault.UnknownHole → old.knows s hole ≡ false }
-        ensures only_unknown { let old = view_of (remoting (L.view self.old.link) self.old.peers.items self.old.fills) in
-            old.knows s hole ≡ false → IsErrOf result SourceFault.UnknownHole ⊎ IsErrOf result SourceFault.OutOfMemory }
     {
         let answer = fill_peer(alloc, &mut self.link, &mut self.peers, s, hole);
         self.fills = self.fills.saturating_add(1);

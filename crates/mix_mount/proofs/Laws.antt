@@ -1,30 +1,20 @@
 -- Laws on what is mounted: which sources never fail, and a source that is alone.
-use Rattle.std.proofs.Common.{◌≡◌, ◌∙◌, ℕ, zero, suc, true, List, Option, Some, None, refl, ap}
+use Rattle.std.proofs.Common.{◌≡◌, ◌∙◌, ℕ, zero, suc, true, List, Some, None, ap}
 use Rattle.lxp_core.specs.declared.open_tree.HoleId.{HoleId}
 use Rattle.lxp_core.specs.View.{document as document_of}
 use Rattle.mix_tree.specs.Forest.{Forest, LabelledTree, alone}
 use Rattle.table_keep.specs.Views.{TablesView, Declared}
+use Rattle.source_document.specs.Meaning.{faults_of}
 use Rattle.mix_mount.specs.declared.mount.Mount.{Mount}
-use Rattle.mix_mount.specs.declared.mount.Mount.TheVariants.{Absent, Bracket, Csv, Table}
 use Rattle.mix_mount.specs.Mounts.{CameFrom, IsAlone, Mounting, document, faults, forest_kept, is_told, mount_at, root_hole, table_of, told_kept, view_of}
 
 -- a document in memory never failed
 pub in_memory_unfailed : (v : TablesView) (m : Mount) → table_of m ≡ None → faults v m ≡ 0
-in_memory_unfailed v Absent h = refl
-in_memory_unfailed v (Bracket doc) h = refl
-in_memory_unfailed v (Csv doc) h = refl
-in_memory_unfailed v (Table doc) h = cc
+in_memory_unfailed v m h = ap (faults_of v) h
 
 -- the mount of a table failed as often as its table
 pub table_failed : (v : TablesView) (m : Mount) (d : Declared) → table_of m ≡ Some d → faults v m ≡ v.faults d
-table_failed v Absent d h = cc
-table_failed v (Bracket doc) d h = cc
-table_failed v (Csv doc) d h = cc
-table_failed v (Table doc) d h = ap (λ (o : Option Declared). or_zero o) h
-  where
-    or_zero : Option Declared → ℕ
-    or_zero None = 0
-    or_zero (Some e) = v.faults e
+table_failed v m d h = ap (faults_of v) h
 
 module _ (a : Mounting) (t : LabelledTree) (one : IsAlone a t) where
   -- a source that is alone tells its document

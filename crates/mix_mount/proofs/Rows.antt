@@ -4,6 +4,7 @@ use Rattle.std.proofs.lemmas.Bool.{cases_lt}
 use Rattle.std.proofs.lemmas.Nat.{row_fits}
 use Rattle.mix_base.specs.Counts.{HasRisen}
 use Rattle.table_keep.specs.Views.{KeepsTables}
+use Rattle.source_document.specs.Meaning.{IsPaged}
 use Rattle.mix_mount.specs.declared.mount.Mount.{Mount}
 use Rattle.mix_mount.specs.Mounts.{CameFrom, Mounting, most_rows, mount_at, rows_of_fill}
 
@@ -30,12 +31,11 @@ few_pages pages pages' fills fills' h rose =
     ]
 
 -- a state came from another by a fill that is counted, asks at most one page, and no more rows than its mount says
-pub came_by_fill : (a b : Mounting) (s : ℕ) → b.docs ≡ a.docs → KeepsTables a.tables b.tables → a.fills ≤ b.fills → HasRisen a.fills b.fills → b.tables.pages ≤ a.tables.pages + 1
-    → b.tables.rows ≤ a.tables.rows + rows_of_fill (mount_at a.docs s) → CameFrom a b
-came_by_fill a b s docs keeps fills rose pages rows = record {
+pub came_by_fill : (a b : Mounting) (s : ℕ) → b.docs ≡ a.docs → KeepsTables a.tables b.tables → a.fills ≤ b.fills → HasRisen a.fills b.fills → IsPaged (rows_of_fill (mount_at a.docs s)) a.tables b.tables → CameFrom a b
+came_by_fill a b s docs keeps fills rose paged = record {
   docs = docs;
   tables = keeps;
   fills = fills;
-  pages = few_pages a.tables.pages b.tables.pages a.fills b.fills pages rose;
-  rows = few_rows (most_rows a.docs) a.tables.rows b.tables.rows a.fills b.fills (omega (arith, rows, most_at a.docs s)) rose;
+  pages = few_pages a.tables.pages b.tables.pages a.fills b.fills paged.at_most_one rose;
+  rows = few_rows (most_rows a.docs) a.tables.rows b.tables.rows a.fills b.fills (omega (arith, paged.at_most_rows, most_at a.docs s)) rose;
 }

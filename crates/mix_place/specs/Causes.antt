@@ -1,15 +1,18 @@
 -- Why a file is refused, and what is said of it.
-use Rattle.std.specs.Prelude.{◌≡◌, ℕ, ◌<◌, ◌≤◌, List, ◌++◌, length, Err, IfSome, codes}
+use Rattle.std.specs.Prelude.{◌≡◌, ◌≢◌, ℕ, ◌<◌, ◌≤◌, List, ◌++◌, length, Err, IfSome, codes}
 use Rattle.std.specs.Fmt.{decimal}
 use Rattle.mix_base.specs.Counts.{HasRisen}
 use Rattle.mix_io.specs.Views.{FilesView}
 use Rattle.bracket_text.specs.Results.{Refuses}
+use Rattle.bracket_text.specs.Said as bracket_said
 use Rattle.bracket_text.specs.declared.fault.BracketFault.{BracketFault}
 use Rattle.bracket_text.specs.declared.fault.BracketFault.TheVariants as bracket
 use Rattle.csv_wrap.specs.Csv.{Explains}
+use Rattle.csv_wrap.specs.Said as csv_said
 use Rattle.csv_wrap.specs.declared.fault.CsvFault.{CsvFault}
 use Rattle.csv_wrap.specs.declared.fault.CsvFault.TheVariants as csv
 use Rattle.json_text.specs.Answers.{Refuses as RefusesJson}
+use Rattle.json_text.specs.Said as json_said
 use Rattle.json_text.specs.declared.fault.JsonFault.{JsonFault}
 use Rattle.json_text.specs.declared.fault.JsonFault.TheVariants as json
 use Rattle.mix_script.specs.Steps.{steps_of}
@@ -116,28 +119,21 @@ large_text large.Conditions = codes "conditions"
 large_text large.Nesting = codes "nesting"
 large_text large.Positions = codes "positions"
 
+-- the line that says of a file what is wrong with it: its path, and a text
+abbrev pub line_saying : List ℕ → List ℕ → List ℕ
+line_saying path text = path ++ codes ": " ++ text ++ codes "\n"
+
 -- the line that says why bracket text is refused: the file's path, and the fault; want of memory has no line
 abbrev pub IsTreeLine : List ℕ → BracketFault → List ℕ → Type 0
-IsTreeLine path (bracket.NotUtf8 at) line = line ≡ path ++ codes ": not UTF-8 at " ++ decimal at ++ codes "\n"
-IsTreeLine path (bracket.Unexpected at) line = line ≡ path ++ codes ": unexpected at " ++ decimal at ++ codes "\n"
-IsTreeLine path (bracket.TooDeep at) line = line ≡ path ++ codes ": too deep at " ++ decimal at ++ codes "\n"
-IsTreeLine path bracket.Ends line = line ≡ path ++ codes ": ends too early\n"
-IsTreeLine path bracket.OutOfMemory line = ⊥
+IsTreeLine path fault line = (fault ≢ bracket.OutOfMemory) × (line ≡ line_saying path (bracket_said.text_of fault))
 
 -- the line that says why a CSV file is refused: its path, and the fault; want of memory has no line
 abbrev pub IsCsvLine : List ℕ → CsvFault → List ℕ → Type 0
-IsCsvLine path csv.NoHeader line = line ≡ path ++ codes ": no header\n"
-IsCsvLine path (csv.HeaderDiffers column) line = line ≡ path ++ codes ": header differs at column " ++ decimal column ++ codes "\n"
-IsCsvLine path (csv.Length row found wanted) line =
-    line ≡ path ++ codes ": row " ++ decimal row ++ codes " has " ++ decimal found ++ codes " fields, " ++ decimal wanted ++ codes " wanted\n"
-IsCsvLine path (csv.NotUtf8 row) line = line ≡ path ++ codes ": row " ++ decimal row ++ codes " is not UTF-8\n"
-IsCsvLine path csv.OutOfMemory line = ⊥
+IsCsvLine path fault line = (fault ≢ csv.OutOfMemory) × (line ≡ line_saying path (csv_said.text_of fault))
 
 -- the line that says why a JSON file is refused: its path, and the fault; want of memory has no line
 abbrev pub IsJsonLine : List ℕ → JsonFault → List ℕ → Type 0
-IsJsonLine path (json.NotUtf8 at) line = line ≡ path ++ codes ": not UTF-8 at " ++ decimal at ++ codes "\n"
-IsJsonLine path (json.NotJson at) line = line ≡ path ++ codes ": not JSON at " ++ decimal at ++ codes "\n"
-IsJsonLine path json.OutOfMemory line = ⊥
+IsJsonLine path fault line = (fault ≢ json.OutOfMemory) × (line ≡ line_saying path (json_said.text_of fault))
 
 -- the line that says why a catalog is refused: its path, and the fault; want of memory has no line
 abbrev pub IsCatalogLine : List ℕ → CatalogFault → List ℕ → Type 0

@@ -1,13 +1,10 @@
 -- What the text of a source's file stands for, by the kind of the source.
-use Rattle.std.specs.Prelude.{◌≡◌, ℕ, Bool, true, false, List, Option, Some, None}
-use Rattle.std.specs.Str.{IsUtf8}
+use Rattle.std.specs.Prelude.{ℕ, Bool, true, false, List, Option, Some, None}
 use Rattle.mix_tree.specs.Forest.{LabelledTree}
 use Rattle.mix_io.specs.Views.{FilesView}
-use Rattle.bracket_text.specs.Grammar.{SpellsShallow}
-use Rattle.csv_wrap.specs.Csv.{IsFile}
-use Rattle.csv_wrap.specs.Rows.{file_tree}
-use Rattle.json.specs.Json as json
-use Rattle.json_text.specs.Trees.{value_tree}
+use Rattle.bracket_text.specs.Stands.{SpellsTree}
+use Rattle.csv_wrap.specs.Stands.{HoldsRows}
+use Rattle.json_text.specs.Stands.{HoldsValue}
 use Rattle.mix_catalog.specs.declared.source.SourceKind.{SourceKind}
 use Rattle.mix_catalog.specs.declared.source.SourceKind.TheVariants.{Bracket, Csv, Table, Remote, Json, View}
 use Rattle.mix_catalog.specs.declared.source.SourceSpec.{SourceSpec}
@@ -15,18 +12,6 @@ use Rattle.mix_catalog.specs.Grammar.{file_of}
 use Rattle.far_keep.specs.declared.far_source.FarSource.{FarSource}
 use Rattle.mix_place.specs.declared.refusal.FileFault.{FileFault}
 use Rattle.mix_place.specs.Causes.{IsRead, IsNoTree, IsNoCsv, IsNoJson}
-
--- a text spells a tree of at most 200 levels
-abbrev pub SpellsTree : List ℕ → LabelledTree → Type 0
-SpellsTree text t = IsUtf8 text × SpellsShallow text t
-
--- a text is a CSV file with given columns, and a tree is that of its rows as a source of a given name
-abbrev pub HoldsRows : List ℕ → List (List ℕ) → List ℕ → LabelledTree → Type 0
-HoldsRows name columns text t = (rows : List (List (List ℕ))) × IsFile text columns rows × (t ≡ file_tree name columns rows)
-
--- a text is a JSON value, and a tree is that of the value as a source of a given name
-abbrev pub HoldsValue : List ℕ → List ℕ → LabelledTree → Type 0
-HoldsValue name text t = (v : json.Json) × IsUtf8 text × (json.document text ≡ Some v) × (t ≡ value_tree name v)
 
 -- whether a source of a kind is a file that holds its document, read whole: a table, a source of another machine and a view are none
 abbrev pub is_file_of : SourceKind → Bool

@@ -1,13 +1,13 @@
 -- A document that was mounted alone.
 use Rattle.std.specs.Prelude.{◌≡◌, ℕ, false, List, [], ◌∷◌}
 use Rattle.mix_tree.specs.Forest.{LabelledTree}
+use Rattle.bracket_text.specs.Stands.{SpellsTree}
 use Rattle.mix_io.specs.Views.{FilesView}
 use Rattle.mix_mount.specs.declared.mount.Mount.{Mount}
 use Rattle.mix_mount.specs.declared.mounted.Mounted.{Mounted}
 use Rattle.mix_mount.specs.Mounts.{IsAlone, docs_of, mounted_in}
 use Rattle.table_keep.specs.declared.no_tables.NoTables.{NoTables}
 use Rattle.table_keep.specs.Untold.{no_tables_view}
-use Rattle.mix_place.specs.Documents.{SpellsTree}
 use Rattle.mix_place.specs.Mounting.{IsMountedFile}
 
 -- the only mounted source is the document that a file spells, which gives one child at a time

@@ -1,5 +1,8 @@
 // Files that a command reads whole and accepts, one after another.
 ghost use Rattle.std.specs.Prelude.{◌≡◌, ◌≤◌, List, ℕ, true, false, length, Ok, Err, OnOk, IfOk, IfErr, IsErrOf};
+ghost use Rattle.bracket_text.specs.Stands.{SpellsTree};
+ghost use Rattle.csv_wrap.specs.Stands.{HoldsRows};
+ghost use Rattle.json_text.specs.Stands.{HoldsValue};
 ghost use Rattle.mix_catalog.specs.Sources.{IsChunk};
 ghost use Rattle.mix_io.specs.Views.{KeepsFiles, ReadsOnly};
 ghost use Rattle.mix_script.specs.Steps.{ArePlain, steps_of};
@@ -10,7 +13,6 @@ ghost use Rattle.xmas_read.specs.Results.{names_of_sources};
 ghost use Rattle.mix_place.specs.Causes.{IsRead, IsNoBytes, IsNoCatalog, IsNoJson, IsNoPlan, IsNoRule, IsNoScript, IsNoCsv, IsNoTree};
 ghost use Rattle.plan_core.specs.PlanMade.{plan_value};
 ghost use Rattle.mix_place.specs.Files.{IsBaseFile, IsCatalogFile, IsPlanFile, IsRuleFile, IsScript};
-ghost use Rattle.mix_place.specs.Documents.{HoldsRows, HoldsValue, SpellsTree};
 ghost use Rattle.mix_place.specs.Stops.{IsLoadStop};
 ghost use Rattle.mix_place.specs.Mounted.{IsMounted};
 ghost use Rattle.mix_place.specs.Mounting.{IsMountedFile};

@@ -103,11 +103,8 @@ fn tree_line(alloc: Global, path: &str, fault: BracketFault) -> Result<String, A
     ensures { IfOk result (λ line. IsTreeLine path.now fault (string_bytes line)) }
 {
     match fault {
-        BracketFault::NotUtf8(at) => format!(in alloc; "{path}: not UTF-8 at {at}\n"),
-        BracketFault::Unexpected(at) => format!(in alloc; "{path}: unexpected at {at}\n"),
-        BracketFault::TooDeep(at) => format!(in alloc; "{path}: too deep at {at}\n"),
-        BracketFault::Ends => format!(in alloc; "{path}: ends too early\n"),
         BracketFault::OutOfMemory => Err(AllocError),
+        _ => format!(in alloc; "{path}: {fault}\n"),
     }
 }
 
@@ -116,15 +113,8 @@ fn csv_line(alloc: Global, path: &str, fault: CsvFault) -> Result<String, AllocE
     ensures { IfOk result (λ line. IsCsvLine path.now fault (string_bytes line)) }
 {
     match fault {
-        CsvFault::NoHeader => format!(in alloc; "{path}: no header\n"),
-        CsvFault::HeaderDiffers(column) => format!(in alloc;
-            "{path}: header differs at column {column}\n"
-        ),
-        CsvFault::Length(row, found, wanted) => format!(in alloc;
-            "{path}: row {row} has {found} fields, {wanted} wanted\n"
-        ),
-        CsvFault::NotUtf8(row) => format!(in alloc; "{path}: row {row} is not UTF-8\n"),
         CsvFault::OutOfMemory => Err(AllocError),
+        _ => format!(in alloc; "{path}: {fault}\n"),
     }
 }
 
@@ -133,9 +123,8 @@ fn json_line(alloc: Global, path: &str, fault: JsonFault) -> Result<String, Allo
     ensures { IfOk result (λ line. IsJsonLine path.now fault (string_bytes line)) }
 {
     match fault {
-        JsonFault::NotUtf8(at) => format!(in alloc; "{path}: not UTF-8 at {at}\n"),
-        JsonFault::NotJson(at) => format!(in alloc; "{path}: not JSON at {at}\n"),
         JsonFault::OutOfMemory => Err(AllocError),
+        _ => format!(in alloc; "{path}: {fault}\n"),
     }
 }
 

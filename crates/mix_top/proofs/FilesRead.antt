@@ -4,11 +4,12 @@ use Rattle.mix_io.specs.Views.{FilesView, KeepsFiles, ReadsOnly}
 use Rattle.mix_catalog.specs.declared.source.SourceSpec.{SourceSpec}
 use Rattle.mix_script.specs.declared.step.Step.{Step}
 use Rattle.mix_tree.specs.Forest.{LabelledTree}
+use Rattle.bracket_text.specs.Stands.{SpellsTree}
 use Rattle.plan_core.specs.Plans.{Operator}
 use Rattle.mix_place.specs.Placed.{SourceMayRead}
 use Rattle.mix_place.specs.Files.{IsCatalogFile, IsScript}
 use Rattle.mix_top.specs.Course.{PlanFile}
-use Rattle.mix_place.specs.Documents.{SpellsTree, IsDocument}
+use Rattle.mix_place.specs.Documents.{IsDocument}
 use Rattle.mix_top.specs.FilesRead.{WalkMayRead, FileMayRead, MayReadAfter, ScriptMayRead, RunMayRead}
 use Rattle.mix_place.specs.Reading.{ReadsAmong}
 use Rattle.mix_place.proofs.ReadingLaws.{reads_one, reads_twice, reads_wider}

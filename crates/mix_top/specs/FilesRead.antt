@@ -1,6 +1,7 @@
 -- Which files a command may read: each after those that are accepted before it.
 use Rattle.std.specs.Prelude.{◌≡◌, ◌⊎◌, ℕ, List}
 use Rattle.mix_tree.specs.Forest.{LabelledTree}
+use Rattle.bracket_text.specs.Stands.{SpellsTree}
 use Rattle.mix_io.specs.Views.{FilesView}
 use Rattle.mix_script.specs.declared.step.Forms.{Forms}
 use Rattle.mix_script.specs.declared.step.Step.{Step}
@@ -9,7 +10,7 @@ use Rattle.plan_core.specs.Plans.{Operator}
 use Rattle.mix_top.specs.Commands.{Command, help, version, walk, read, plan, check, run, count, exec, loop, load, unknown}
 use Rattle.mix_place.specs.Files.{IsCatalogFile, IsScript}
 use Rattle.mix_top.specs.Course.{PlanFile, by_text, by_view}
-use Rattle.mix_place.specs.Documents.{SpellsTree, IsDocument}
+use Rattle.mix_place.specs.Documents.{IsDocument}
 use Rattle.mix_place.specs.Placed.{SourceMayRead, ViewsMayRead}
 
 -- the files that a walk may read: its document, and after an accepted one its script

@@ -265,12 +265,14 @@ pub answer_rows : (v : TablesView) (d : TableDoc) (after : Option ℤ) (rows : L
     → AllByRecursion (λ r. AreInRange (columns_of d) r.values) rows → IsAnswer v d (Some (Rows after)) (rows_given d after rows)
 answer_rows v d after rows rising page first fits range = record {
   list = (rows, page, first, refl);
-  closes = λ told. closes (v.told (declared_of d)) refl told first;
-  progress = progress-rows d after rows;
-  known = known-rows d after rows;
-  lighter = lighter-rows d after rows page.rise fits;
-  forward = forward-rows d after rows;
-  small = small_rows d after rows page range;
+  answers = λ h at. record {
+    closes = λ told. closes (v.told (declared_of d)) refl told first ∙ ap (part_forest (rows_of v d) d) (sym at);
+    progress = progress-rows d after rows;
+    known = known-rows d after rows;
+    lighter = subst (λ p. weight_of (weight d) (rows_given d after rows) ≤ part_weight d p) (sym at) (lighter-rows d after rows page.rise fits);
+    forward = λ told. forward-rows d after rows;
+    small = λ told. small_rows d after rows page range;
+  };
 }
   where
     closes : (found : Option (List Row)) → v.told (declared_of d) ≡ found → is_some found ≡ true → IfSome found (λ all. rows ≡ first_above after (chunk_of d) all)
@@ -287,10 +289,14 @@ above_none (r ∷ rows) = ap (λ (rs : List Row). r ∷ rs) (above_none rows)
 pub answer_name : (v : TablesView) (d : TableDoc) → IsAnswer v d (Some Name) (node (name_of d) (hole (hole_of (Rows None)) nil) nil)
 answer_name v d = record {
   list = refl;
-  closes = λ told. ap (λ f. tree (name_of d) f none) (followed-none (row_forest (columns_of d) (filter (λ (r : Row). is_above None r.key) (rows_of v d))) ∙ ap (row_forest (columns_of d)) (above_none (rows_of v d)));
-  progress = record { top = λ k. refl; apart = ((refl, tt), tt) };
-  known = ((refl, tt), tt);
-  lighter = omega arith;
-  forward = refl;
-  small = small_name d;
+  answers = λ h at. record {
+    closes = λ told.
+        ap (λ f. tree (name_of d) f none) (followed-none (row_forest (columns_of d) (filter (λ (r : Row). is_above None r.key) (rows_of v d))) ∙ ap (row_forest (columns_of d)) (above_none (rows_of v d)))
+        ∙ ap (part_forest (rows_of v d) d) (sym at);
+    progress = record { top = λ k. refl; apart = ((refl, tt), tt) };
+    known = ((refl, tt), tt);
+    lighter = subst (λ p. weight_of (weight d) (node (name_of d) (hole (hole_of (Rows None)) nil) nil) ≤ part_weight d p) (sym at) (omega arith);
+    forward = λ told. refl;
+    small = λ told. small_name d;
+  };
 }

@@ -1,14 +1,16 @@
 -- What a table's document and its holes mean.
-use Rattle.std.specs.Prelude.{◌≡◌, ℕ, ◌+◌, ◌-◌, ◌*◌, ◌^◌, ◌==◌, ◌≤◌, Bool, true, false, cond, ℤ, pos, negsuc, List, [], ◌∷◌, length, Option, Some, None, IfSome, is_some, unwrap_or, refl}
+use Rattle.std.specs.Prelude.{◌≡◌, ℕ, ◌+◌, ◌-◌, ◌*◌, ◌^◌, ◌==◌, Bool, true, false, cond, ℤ, pos, negsuc, List, [], ◌∷◌, length, Option, Some, None, IfSome, is_some, unwrap_or, refl}
 use Rattle.std.specs.List.{filter}
+use Rattle.std.proofs.Common.{ap}
 use Rattle.mix_tree.specs.Forest.{Forest, none, alone}
 use Rattle.lxp_core.specs.declared.open_tree.HoleId.{HoleId}
-use Rattle.lxp_core.specs.Open.{Open, nil, node, hole, closed, weight_of, AllHoles, IsProgress, begins_with_hole, open_followed, without_holes}
-use Rattle.lxp_core.specs.Small.{IsSmall}
+use Rattle.lxp_core.specs.Open.{Open, nil, node, hole, open_followed, without_holes}
+use Rattle.lxp_core.specs.Fill.{Answers}
 use Rattle.mix_catalog.specs.declared.column.Column.{Column}
 use Rattle.table_keep.specs.Page.{IsPageOf, first_above, is_above}
 use Rattle.table_keep.specs.Rows.{Row}
 use Rattle.table_keep.specs.Views.{Declared, TablesView}
+use Rattle.source_document.specs.Meaning.{IsKept, Meaning, over}
 use Rattle.mix_catalog.specs.declared.source.SourceKind.{SourceKind}
 use Rattle.mix_catalog.specs.declared.source.SourceKind.TheVariants.{Bracket, Csv, Table, Remote, Json, View}
 use Rattle.table_wrap.specs.declared.document.TableDoc.{TableDoc}
@@ -120,15 +122,30 @@ root_known d = refl
 pub document_is_table : (v : TablesView) (d : TableDoc) → document v d ≡ alone (table_tree (name_of d) (columns_of d) (rows_of v d))
 document_is_table v d = refl
 
--- what a list promises that answers a fill of a part: it closes to the part, keeps progress, has known holes, weighs no more, and is small
+-- what a table's document means as a mounted one: its rows are asked of tables
+abbrev pub means : TableDoc → Meaning
+means d = record {
+  root = root_hole d;
+  knows = knows d;
+  weight = weight d;
+  told = λ v. told v d;
+  forest = λ v. forest v d;
+  table = Some (declared_of d);
+  asks = λ h. asks (part_of h);
+  rows = chunk_of d;
+}
+
+-- where tables keep what every call keeps, a table's document means the same over them
+pub means_kept : (d : TableDoc) → IsKept (means d)
+means_kept d = record {
+  told = λ old new k. ap (λ (rows : Option (List Row)). is_some rows) (k.told (declared_of d));
+  forest = λ old new k. ap {B = HoleId → Forest} (λ (rows : Option (List Row)). λ h. part_forest (unwrap_or rows []) d (part_of h)) (k.told (declared_of d));
+}
+
+-- a list may be given for a part, and answers a fill of each hole of that part
 pub record IsAnswer (v : TablesView) (d : TableDoc) (p : Option Part) (o : Open) : Type 0 where
   pub list : IsGiven v d p o
-  pub closes : told v d ≡ true → closed (forest v d) o ≡ part_forest (rows_of v d) d p
-  pub progress : IsProgress o
-  pub known : AllHoles (knows d) o
-  pub lighter : weight_of (weight d) o ≤ part_weight d p
-  pub forward : begins_with_hole o ≡ false
-  pub small : IsSmall o
+  pub answers : (h : HoleId) → part_of h ≡ p → Answers (over (means d) v) (over (means d) v) h o
 
 -- whether a source is a table
 abbrev pub is_table_of : SourceKind → Bool

@@ -9,6 +9,7 @@ use crate::wire::fits_wire;
 use lxp_core::{HoleId, OpenTree, SourceFault};
 use mix_catalog::{Column, SourceKind, SourceSpec};
 use mix_tree::Label;
+use source_document::Document;
 use std::alloc::{AllocError, Global};
 use table_keep::{PageAsk, PageFault, TableRow, Tables};
 
@@ -41,15 +42,15 @@ fn source_fault(fault: PageFault) -> SourceFault
 }
 
 impl TableDoc {
-    ghost use Rattle.std.specs.Prelude.{◌≡◌, ◌+◌, Some, None, true, false, IfOk, OnOk, IsErrOf};
+    ghost use Rattle.std.specs.Prelude.{◌≡◌, Some, None, true, false, IfOk, OnOk, IsErrOf};
     ghost use Rattle.mix_base.specs.Counts.{HasRisen};
-    ghost use Rattle.lxp_core.specs.Open.{closed, weight_of, AllHoles, IsProgress, begins_with_hole};
+    ghost use Rattle.lxp_core.specs.Fill.{Answers, IsRefusedAtOnce};
     ghost use Rattle.lxp_core.specs.Plain.{plain};
-    ghost use Rattle.lxp_core.specs.Small.{IsSmall};
     ghost use Rattle.table_keep.specs.Page.{IsPageOf, first_above};
     ghost use Rattle.table_keep.specs.Rows.{rows_of as plain_rows};
     ghost use Rattle.table_keep.specs.Views.{KeepsTables};
-    ghost use Rattle.table_wrap.specs.Document.{AreFirst, IsAnswer, IsGiven, asks, chunk_of, columns_of, declared_in, declared_of, forest, is_table_of, knows, name_of, root_hole, told, weight};
+    ghost use Rattle.source_document.specs.Meaning.{IsPaged, over};
+    ghost use Rattle.table_wrap.specs.Document.{AreFirst, IsAnswer, IsGiven, asks, chunk_of, columns_of, declared_in, declared_of, is_table_of, means, name_of, root_hole};
     ghost use Rattle.table_wrap.specs.Parts.{part_of};
     ghost use Rattle.table_wrap.specs.declared.parts.Part.TheVariants.{Rows};
 
@@ -103,8 +104,7 @@ impl TableDoc {
         ensures keeps { KeepsTables (T.view t.old) (T.view t.new) }
         ensures page { IfOk result (λ rows. IsPageOf after (chunk_of self.now) (columns_of self.now) (plain_rows rows.items)) }
         ensures first { IfOk result (λ rows. AreFirst (T.view t.old) self.now after (plain_rows rows.items)) }
-        ensures at_most_one { (T.view t.new).pages ≤ (T.view t.old).pages + 1 }
-        ensures at_most_chunk { (T.view t.new).rows ≤ (T.view t.old).rows + chunk_of self.now }
+        ensures paged { IsPaged (chunk_of self.now) (T.view t.old) (T.view t.new) }
         ensures counted { OnOk result (HasRisen (T.view t.old).pages (T.view t.new).pages) }
         ensures counted_failed { IsErrOf result SourceFault.Failed → HasRisen (T.view t.old).pages (T.view t.new).pages }
         ensures failed { IsErrOf result SourceFault.Failed
@@ -134,8 +134,7 @@ impl TableDoc {
     ) -> Result<Vec<OpenTree>, SourceFault>
         ensures keeps { KeepsTables (T.view t.old) (T.view t.new) }
         ensures answer { IfOk result (λ list. IsAnswer (T.view t.old) self.now (Some (Rows after)) (plain list.items)) }
-        ensures at_most_one { (T.view t.new).pages ≤ (T.view t.old).pages + 1 }
-        ensures at_most_chunk { (T.view t.new).rows ≤ (T.view t.old).rows + chunk_of self.now }
+        ensures paged { IsPaged (chunk_of self.now) (T.view t.old) (T.view t.new) }
         ensures counted { OnOk result (HasRisen (T.view t.old).pages (T.view t.new).pages) }
         ensures counted_failed { IsErrOf result SourceFault.Failed → HasRisen (T.view t.old).pages (T.view t.new).pages }
         ensures failed { IsErrOf result SourceFault.Failed
@@ -147,7 +146,7 @@ impl TableDoc {
     }
 
     // The list that answers a fill of a part of the document.
-    fn give<T: Tables>(
+    fn give_part<T: Tables>(
         &self,
         alloc: Global,
         t: &mut T,
@@ -156,8 +155,7 @@ impl TableDoc {
         ensures keeps { KeepsTables (T.view t.old) (T.view t.new) }
         ensures answer { IfOk result (λ list. IsAnswer (T.view t.old) self.now (Some part) (plain list.items)) }
         ensures untouched { asks (Some part) ≡ false → t.new ≡ t.old }
-        ensures at_most_one { (T.view t.new).pages ≤ (T.view t.old).pages + 1 }
-        ensures at_most_chunk { (T.view t.new).rows ≤ (T.view t.old).rows + chunk_of self.now }
+        ensures paged { IsPaged (chunk_of self.now) (T.view t.old) (T.view t.new) }
         ensures counted { asks (Some part) ≡ true → OnOk result (HasRisen (T.view t.old).pages (T.view t.new).pages) }
         ensures counted_failed { IsErrOf result SourceFault.Failed → HasRisen (T.view t.old).pages (T.view t.new).pages }
         ensures failed { IsErrOf result SourceFault.Failed
@@ -180,29 +178,48 @@ impl TableDoc {
     ) -> Result<Vec<OpenTree>, SourceFault>
         ensures keeps { KeepsTables (T.view t.old) (T.view t.new) }
         ensures list { IfOk result (λ list. IsGiven (T.view t.old) self.now (part_of hole) (plain list.items)) }
-        // What the answer promises.
-        ensures closes { IfOk result (λ list. told (T.view t.old) self.now ≡ true
-            → closed (forest (T.view t.old) self.now) (plain list.items) ≡ forest (T.view t.old) self.now hole) }
-        ensures progress { IfOk result (λ list. IsProgress (plain list.items)) }
-        ensures known { IfOk result (λ list. AllHoles (knows self.now) (plain list.items)) }
-        ensures lighter { IfOk result (λ list. weight_of (weight self.now) (plain list.items) ≤ weight self.now hole) }
-        ensures forward { IfOk result (λ list. begins_with_hole (plain list.items) ≡ false) }
-        ensures small { IfOk result (λ list. IsSmall (plain list.items)) }
+        ensures answers { let before = over (means self.now) (T.view t.old) in let after = over (means self.now) (T.view t.new) in
+            IfOk result (λ list. Answers before after hole (plain list.items)) }
+        ensures refused { IsRefusedAtOnce _ (over (means self.now) (T.view t.old)) (over (means self.now) (T.view t.new)) hole result }
         // The pages: a hole of rows asks for one, of no more rows than a page may have, and no other hole touches the tables.
         ensures untouched { asks (part_of hole) ≡ false → t.new ≡ t.old }
-        ensures at_most_one { (T.view t.new).pages ≤ (T.view t.old).pages + 1 }
-        ensures at_most_chunk { (T.view t.new).rows ≤ (T.view t.old).rows + chunk_of self.now }
+        ensures paged { IsPaged (chunk_of self.now) (T.view t.old) (T.view t.new) }
         ensures counted { asks (part_of hole) ≡ true → OnOk result (HasRisen (T.view t.old).pages (T.view t.new).pages) }
         ensures counted_failed { IsErrOf result SourceFault.Failed → HasRisen (T.view t.old).pages (T.view t.new).pages }
-        // For which causes a fill fails.
-        ensures failed { IsErrOf result SourceFault.Failed
-            → HasRisen ((T.view t.old).faults (declared_of self.now)) ((T.view t.new).faults (declared_of self.now)) }
-        ensures unknown { IsErrOf result SourceFault.UnknownHole → knows self.now hole ≡ false }
-        ensures only_unknown { knows self.now hole ≡ false → IsErrOf result SourceFault.UnknownHole }
     {
         let Some(part) = Part::of_hole(hole) else {
             return Err(SourceFault::UnknownHole);
         };
-        self.give(alloc, t, part)
+        self.give_part(alloc, t, part)
     }
+}
+
+impl Document for TableDoc {
+    ghost use Rattle.table_wrap.specs.Document.{IsGiven, means, means_kept, root_known};
+    ghost use Rattle.table_wrap.specs.Parts.{part_of};
+
+    ghost means = { means };
+
+    ghost gives = { λ v d h o. IsGiven v d (part_of h) o };
+
+    fn whole(&self) -> HoleId {
+        self.root_hole()
+    }
+
+    fn give<T: Tables>(
+        &self,
+        alloc: Global,
+        tables: &mut T,
+        hole: HoleId,
+    ) -> Result<Vec<OpenTree>, SourceFault> {
+        self.fill(alloc, tables, hole)
+    }
+
+    fn weigh(&self, hole: HoleId) -> Option<u128> {
+        self.weight(hole)
+    }
+
+    ghost kept = { means_kept };
+
+    ghost root_known = { root_known };
 }

@@ -5,6 +5,7 @@ use Rattle.std.proofs.lemmas.Option.{slice_get_within}
 use Rattle.mix_tree.specs.Forest.{Forest, none, tree, LabelledTree, followed}
 use Rattle.mix_tree.proofs.Forests.{followed-none}
 use Rattle.lxp_core.specs.declared.open_tree.HoleId.{HoleId}
+use Rattle.lxp_core.specs.Fill.{Answers, source_of}
 use Rattle.lxp_core.specs.Open.{nil, closed, weight_of, AllHoles, IsProgress, begins_with_hole}
 use Rattle.plan_core.specs.Tolled.{trees_below, trees_after, plain}
 use Rattle.lazy_plan.specs.Bench.{BenchState, told}
@@ -15,7 +16,6 @@ use Rattle.lazy_walk.specs.Places.{plan_document}
 use Rattle.view_stack.specs.declared.layers.Served.{Served}
 use Rattle.view_stack.specs.declared.part.Part.{Part}
 use Rattle.view_stack.specs.declared.part.Part.TheVariants.{Whole, Below, After}
-use Rattle.view_stack.specs.Beside.{Answers}
 use Rattle.view_stack.specs.Parts.{hole_of, part_of, full, end}
 use Rattle.view_stack.specs.Parts as parts
 use Rattle.view_stack.specs.Stacks.{Stacking, view_at, is_told, tree_alone, served_tree, part_forest, of_part, forest, is_of, has_part, knows, weight, views_of}
@@ -75,7 +75,7 @@ given_closed f st served (After j) label n e =
 
 module _ (k k' : Stacking) (i : ℕ) (h : HoleId) (p : Part) (is : part_of h ≡ Some p) (has : has_part k.served i p ≡ true) (r : Option Walk) (there : view_at k.views i ≡ r) where
   -- no node is an answer where the hole's view has no trees there
-  pub answers_nothing : (IsTrue (is_told k.base r) → forest k.base k.served r h ≡ none) → Answers (views_of k) (views_of k') i h nil
+  pub answers_nothing : (IsTrue (is_told k.base r) → forest k.base k.served r h ≡ none) → Answers (source_of (views_of k) i) (source_of (views_of k') i) h nil
   answers_nothing e = record {
     closes = λ t. sym (ap (λ (z : Option Walk). forest k.base k.served z h) there ∙ e (sym (ap (is_told k.base) there) ∙ t));
     progress = record { top = λ z. cc; apart = tt };
@@ -91,7 +91,7 @@ module _ (k k' : Stacking) (i : ℕ) (h : HoleId) (p : Part) (is : part_of h ≡
   forest_is = ap (λ (z : Option Walk). forest k.base k.served z h) there ∙ ap (of_part none (part_forest (state_of k.base m) k.served)) is
 
   -- no node is an answer where the part has no trees
-  pub answers_none : (IsTrue (told (state_of k.base m)) → part_forest (state_of k.base m) k.served p ≡ none) → Answers (views_of k) (views_of k') i h nil
+  pub answers_none : (IsTrue (told (state_of k.base m)) → part_forest (state_of k.base m) k.served p ≡ none) → Answers (source_of (views_of k) i) (source_of (views_of k') i) h nil
   answers_none e = answers_nothing k k' i h p is has (Some m) there (λ t. ap (of_part none (part_forest (state_of k.base m) k.served)) is ∙ e t)
 
   module _ (there' : view_at k'.views i ≡ Some m') (x : Served) (of : x.view ≡ i) (served : k'.served ≡ k.served ++ x ∷ []) (few : length k.served < end) (label : List ℕ) where
@@ -113,7 +113,7 @@ module _ (k k' : Stacking) (i : ℕ) (h : HoleId) (p : Part) (is : part_of h ≡
 
     -- the list of the node that is served is an answer where that node is the first of the part's trees
     pub answers_given : (IsTrue (told (state_of k.base m)) → part_forest (state_of k.base m) k.served p
-        ≡ tree label (plain (trees_below (here (state_of k'.base m') x.node.site))) (plain (trees_after (here (state_of k'.base m') x.node.site)))) → Answers (views_of k) (views_of k') i h (given label (length k.served) p)
+        ≡ tree label (plain (trees_below (here (state_of k'.base m') x.node.site))) (plain (trees_after (here (state_of k'.base m') x.node.site)))) → Answers (source_of (views_of k) i) (source_of (views_of k') i) h (given label (length k.served) p)
     answers_given e = record {
       closes = λ t.
           given_closed (forest k'.base k'.served (view_at k'.views i)) (state_of k.base m) k.served p label (length k.served)

@@ -3,9 +3,9 @@ use Rattle.std.proofs.Common.{◌≡◌, ◌≤◌, ◌+◌, ◌-◌, ℕ, Bool,
 use Rattle.std.specs.Prelude.{nat_lt, cond}
 use Rattle.mix_tree.specs.Forest.{Forest}
 use Rattle.lxp_core.specs.declared.open_tree.HoleId.{HoleId}
-use Rattle.lxp_core.specs.Open.{Open, closed, weight_of, AllHoles}
+use Rattle.lxp_core.specs.Fill.{Piecewise, source_of}
 use Rattle.lxp_core.specs.View.{View, Keeps}
-use Rattle.view_stack.specs.Beside.{beside, Answers}
+use Rattle.view_stack.specs.Beside.{beside}
 
 module _ (v v' w w' : View) (x : Keeps v v') (y : Keeps w w') where
   module _ (s : ℕ) where
@@ -73,36 +73,25 @@ module _ (v v' w w' : View) (x : Keeps v v') (y : Keeps w w') where
     faults = λ s. subst (λ (b : Bool). cond (nat_lt s v.count) (v.faults s) (w.faults (s - v.count)) ≤ cond b (v'.faults s) (w'.faults (s - v'.count))) (sym (test_same s)) (faults_kept s (nat_lt s v.count));
   }
 
--- an answer of a source is one of a source of other views by which these mean the same
-pub answers_same : (u u' v v' : View) (s t : ℕ) (h : HoleId) (o : Open) → u.told s ≡ v.told t → u.forward s ≡ v.forward t → u.small s ≡ v.small t → u.forest s ≡ v.forest t → u.weight s ≡ v.weight t
-    → u'.forest s ≡ v'.forest t → u'.knows s ≡ v'.knows t → u'.weight s ≡ v'.weight t → Answers v v' t h o → Answers u u' s h o
-answers_same u u' v v' s t h o told forward small forest weight forest' knows' weight' a = record {
-  closes = λ e. ap (λ (f : HoleId → Forest). closed f o) forest' ∙ a.closes (sym told ∙ e) ∙ sym (ap (λ (f : HoleId → Forest). f h) forest);
-  progress = a.progress;
-  known = subst (λ (f : HoleId → Bool). AllHoles f o) (sym knows') a.known;
-  lighter = subst (λ (f : HoleId → ℕ). weight_of f o ≤ u.weight s h) (sym weight') (subst (λ (f : HoleId → ℕ). weight_of (v'.weight t) o ≤ f h) (sym weight) a.lighter);
-  forward = λ e. a.forward (sym forward ∙ e);
-  small = λ e. a.small (sym small ∙ e);
-}
+module _ (v w : View) (s : ℕ) where
+  -- the document of a source of the first view or of the second, chosen by a test
+  chosen : Bool → Piecewise
+  chosen b = record {
+    told = cond b (v.told s) (w.told (s - v.count));
+    knows = cond b (v.knows s) (w.knows (s - v.count));
+    forest = cond b (v.forest s) (w.forest (s - v.count));
+    weight = cond b (v.weight s) (w.weight (s - v.count));
+    forward = cond b (v.forward s) (w.forward (s - v.count));
+    small = cond b (v.small s) (w.small (s - v.count));
+    faults = cond b (v.faults s) (w.faults (s - v.count));
+  }
 
-module _ (v v' w w' : View) (s : ℕ) (count : v'.count ≡ v.count) (h : HoleId) (o : Open) where
-  -- an answer of the first view's source is one of both beside each other
-  pub answers_first : nat_lt s v.count ≡ true → Answers v v' s h o → Answers (beside v w) (beside v' w') s h o
-  answers_first e a =
-      let e' : nat_lt s v'.count ≡ true = ap (nat_lt s) count ∙ e in
-      answers_same (beside v w) (beside v' w') v v' s s h o (ap (λ (b : Bool). cond b (v.told s) (w.told (s - v.count))) e) (ap (λ (b : Bool). cond b (v.forward s) (w.forward (s - v.count))) e)
-      (ap (λ (b : Bool). cond b (v.small s) (w.small (s - v.count))) e)
-      (ap (λ (b : Bool). cond b (v.forest s) (w.forest (s - v.count))) e) (ap (λ (b : Bool). cond b (v.weight s) (w.weight (s - v.count))) e)
-      (ap (λ (b : Bool). cond b (v'.forest s) (w'.forest (s - v'.count))) e') (ap (λ (b : Bool). cond b (v'.knows s) (w'.knows (s - v'.count))) e')
-      (ap (λ (b : Bool). cond b (v'.weight s) (w'.weight (s - v'.count))) e') a
+  -- a source of the first view has its document
+  pub source_first : nat_lt s v.count ≡ true → source_of (beside v w) s ≡ source_of v s
+  unfolding chosen
+  source_first e = ap chosen e
 
-  -- an answer of the second view's source is one of both beside each other
-  pub answers_second : nat_lt s v.count ≡ false → Answers w w' (s - v.count) h o → Answers (beside v w) (beside v' w') s h o
-  answers_second e a =
-      let e' : nat_lt s v'.count ≡ false = ap (nat_lt s) count ∙ e in
-      let n : s - v'.count ≡ s - v.count = ap (λ (n : ℕ). s - n) count in
-      answers_same (beside v w) (beside v' w') w w' s (s - v.count) h o (ap (λ (b : Bool). cond b (v.told s) (w.told (s - v.count))) e) (ap (λ (b : Bool). cond b (v.forward s) (w.forward (s - v.count))) e)
-      (ap (λ (b : Bool). cond b (v.small s) (w.small (s - v.count))) e)
-      (ap (λ (b : Bool). cond b (v.forest s) (w.forest (s - v.count))) e) (ap (λ (b : Bool). cond b (v.weight s) (w.weight (s - v.count))) e)
-      (ap (λ (b : Bool). cond b (v'.forest s) (w'.forest (s - v'.count))) e' ∙ ap w'.forest n) (ap (λ (b : Bool). cond b (v'.knows s) (w'.knows (s - v'.count))) e' ∙ ap w'.knows n)
-      (ap (λ (b : Bool). cond b (v'.weight s) (w'.weight (s - v'.count))) e' ∙ ap w'.weight n) a
+  -- a source of the second view has its document
+  pub source_second : nat_lt s v.count ≡ false → source_of (beside v w) s ≡ source_of w (s - v.count)
+  unfolding chosen
+  source_second e = ap chosen e

@@ -1,8 +1,7 @@
 // What answers a fill of a source or of a view.
-ghost use Rattle.std.specs.Prelude.{◌≡◌, ◌<◌, ◌≤◌, ◌+◌, ◌-◌, ◌^◌, ◌⊎◌, min, true, false, length, IfOk, IsErrOf};
-ghost use Rattle.mix_base.specs.Counts.{HasRisen};
+ghost use Rattle.std.specs.Prelude.{◌≡◌, ◌<◌, ◌≤◌, ◌+◌, ◌-◌, ◌^◌, min, length, IfOk};
+ghost use Rattle.lxp_core.specs.Fill.{Answers, IsRefused, IsRefusedAtOnce, source_of};
 ghost use Rattle.lxp_core.specs.Plain.{plain};
-ghost use Rattle.view_stack.specs.Beside.{Answers};
 ghost use Rattle.view_stack.specs.Stacks.{stacking_in, view_of, views_of};
 ghost use Rattle.view_stack.specs.Steps.{AreSound, CameFrom, IsKnownPart, IsOneStep, Moved, NeedsNone, given};
 
@@ -59,12 +58,12 @@ pub(crate) fn fill_view<S: Sources>(
     ensures moved { Moved S.view S.came_from layers.old layers.new }
     ensures unasked { NeedsNone layers.old.views.items view hole → layers.new.base ≡ layers.old.base }
     ensures step { IfOk result (λ list. IsOneStep hole (plain list.items)) }
-    ensures answers { IfOk result (λ list.
-        Answers (views_of (stacking_in S.view layers.old)) (views_of (stacking_in S.view layers.new)) view hole (plain list.items)) }
-    ensures failed { IsErrOf result SourceFault.Failed
-        → HasRisen ((views_of (stacking_in S.view layers.old)).faults view) ((views_of (stacking_in S.view layers.new)).faults view) }
-    ensures unknown { IsErrOf result SourceFault.UnknownHole → (views_of (stacking_in S.view layers.old)).knows view hole ≡ false }
-    ensures only_unknown { (views_of (stacking_in S.view layers.old)).knows view hole ≡ false → IsErrOf result SourceFault.UnknownHole }
+    ensures answers { let before = source_of (views_of (stacking_in S.view layers.old)) view in
+        let after = source_of (views_of (stacking_in S.view layers.new)) view in
+        IfOk result (λ list. Answers before after hole (plain list.items)) }
+    ensures refused { let before = source_of (views_of (stacking_in S.view layers.old)) view in
+        let after = source_of (views_of (stacking_in S.view layers.new)) view in
+        IsRefusedAtOnce _ before after hole result }
 {
     views_are_kept();
     let Some(part) = known_part(&layers.served, view, hole) else {
@@ -94,12 +93,9 @@ fn fill_base<S: Sources>(
     requires source { s < (S.view layers.old.base).count }
     requires sound { AreSound S.view layers.old }
     ensures moved { Moved S.view S.came_from layers.old layers.new }
-    ensures answers { IfOk result (λ list. Answers (S.view layers.old.base) (S.view layers.new.base) s hole (plain list.items)) }
-    ensures failed { IsErrOf result SourceFault.Failed
-        → HasRisen ((S.view layers.old.base).faults s) ((S.view layers.new.base).faults s) }
-    ensures unknown { IsErrOf result SourceFault.UnknownHole → (S.view layers.old.base).knows s hole ≡ false }
-    ensures only_unknown { (S.view layers.old.base).knows s hole ≡ false
-        → IsErrOf result SourceFault.UnknownHole ⊎ IsErrOf result SourceFault.OutOfMemory }
+    ensures answers { let before = source_of (S.view layers.old.base) s in let after = source_of (S.view layers.new.base) s in
+        IfOk result (λ list. Answers before after hole (plain list.items)) }
+    ensures refused { IsRefused _ (source_of (S.view layers.old.base) s) (source_of (S.view layers.new.base) s) hole result }
 {
     views_are_kept();
     layers.base.fill(alloc, s, hole)
@@ -119,14 +115,13 @@ pub(crate) fn fill<S: Sources>(
     ensures unasked { let count = (S.view layers.old.base).count in
         count ≤ s → NeedsNone layers.old.views.items (s - count) hole → layers.new.base ≡ layers.old.base }
     ensures step { (S.view layers.old.base).count ≤ s → IfOk result (λ list. IsOneStep hole (plain list.items)) }
-    ensures answers { IfOk result (λ list.
-        Answers (view_of (stacking_in S.view layers.old)) (view_of (stacking_in S.view layers.new)) s hole (plain list.items)) }
+    ensures answers { let before = source_of (view_of (stacking_in S.view layers.old)) s in
+        let after = source_of (view_of (stacking_in S.view layers.new)) s in
+        IfOk result (λ list. Answers before after hole (plain list.items)) }
+    ensures refused { let before = source_of (view_of (stacking_in S.view layers.old)) s in
+        let after = source_of (view_of (stacking_in S.view layers.new)) s in
+        IsRefused _ before after hole result }
     ensures fills { layers.new.fills ≡ min (layers.old.fills + 1) (2 ^ 64 - 1) }
-    ensures failed { IsErrOf result SourceFault.Failed
-        → HasRisen ((view_of (stacking_in S.view layers.old)).faults s) ((view_of (stacking_in S.view layers.new)).faults s) }
-    ensures unknown { IsErrOf result SourceFault.UnknownHole → (view_of (stacking_in S.view layers.old)).knows s hole ≡ false }
-    ensures only_unknown { (view_of (stacking_in S.view layers.old)).knows s hole ≡ false
-        → IsErrOf result SourceFault.UnknownHole ⊎ IsErrOf result SourceFault.OutOfMemory }
 {
     views_are_kept();
     let asked = layers.fills;

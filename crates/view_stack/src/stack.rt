@@ -70,11 +70,9 @@ impl<S: Sources> Stack<S> {
 }
 
 impl<S: Sources> Sources for Stack<S> {
-    ghost use Rattle.std.specs.Prelude.{◌≡◌, ◌+◌, ◌-◌, ◌≤◌, ◌⊎◌, true, false, IfOk, OnOk, IsErrOf};
-    ghost use Rattle.mix_base.specs.Counts.{HasRisen};
-    ghost use Rattle.lxp_core.specs.Open.{closed, weight_of, AllHoles, IsProgress, begins_with_hole};
+    ghost use Rattle.std.specs.Prelude.{◌≡◌, ◌-◌, ◌≤◌, IfOk};
+    ghost use Rattle.lxp_core.specs.Fill.{Answers, IsCounted, IsRefused, source_of};
     ghost use Rattle.lxp_core.specs.Plain.{plain};
-    ghost use Rattle.lxp_core.specs.Small.{IsSmall};
     ghost use Rattle.view_stack.specs.Steps.{CameFrom, IsOneStep, NeedsNone};
     ghost use Rattle.view_stack.specs.Laws.{came_same, came_after, stack_root_known};
 
@@ -97,31 +95,16 @@ impl<S: Sources> Sources for Stack<S> {
     fn fill(&mut self, alloc: Global, s: u32, hole: HoleId) -> Result<Vec<OpenTree>, SourceFault>
         requires { s < (view_of (stacking_in S.view self.old.layers)).count }
         ensures came { CameFrom S.view S.came_from self.old.layers self.new.layers }
-        // What the answer promises.
         ensures step { (S.view self.old.layers.base).count ≤ s → IfOk result (λ list. IsOneStep hole (plain list.items)) }
-        ensures closes { let old = view_of (stacking_in S.view self.old.layers) in let new = view_of (stacking_in S.view self.new.layers) in
-            IfOk result (λ list. old.told s ≡ true → closed (new.forest s) (plain list.items) ≡ old.forest s hole) }
-        ensures progress { IfOk result (λ list. IsProgress (plain list.items)) }
-        ensures known { IfOk result (λ list. AllHoles ((view_of (stacking_in S.view self.new.layers)).knows s) (plain list.items)) }
-        ensures lighter { let old = view_of (stacking_in S.view self.old.layers) in let new = view_of (stacking_in S.view self.new.layers) in
-            IfOk result (λ list. weight_of (new.weight s) (plain list.items) ≤ old.weight s hole) }
-        ensures forward { let old = view_of (stacking_in S.view self.old.layers) in
-            IfOk result (λ list. old.forward s ≡ true → begins_with_hole (plain list.items) ≡ false) }
-        ensures small { IfOk result (λ list.
-            (view_of (stacking_in S.view self.old.layers)).small s ≡ true → IsSmall (plain list.items)) }
-        // The counts.
+        ensures answers { let before = source_of (view_of (stacking_in S.view self.old.layers)) s in
+            let after = source_of (view_of (stacking_in S.view self.new.layers)) s in
+            IfOk result (λ list. Answers before after hole (plain list.items)) }
+        ensures refused { let before = source_of (view_of (stacking_in S.view self.old.layers)) s in
+            let after = source_of (view_of (stacking_in S.view self.new.layers)) s in
+            IsRefused _ before after hole result }
+        ensures counted { IsCounted _ self.old.layers.fills self.new.layers.fills result }
         ensures unasked { let count = (S.view self.old.layers.base).count in count ≤ s
             → NeedsNone self.old.layers.views.items (s - count) hole → self.new.layers.base ≡ self.old.layers.base }
-        ensures at_most_one { (view_of (stacking_in S.view self.new.layers)).fills ≤ (view_of (stacking_in S.view self.old.layers)).fills + 1 }
-        ensures counted { OnOk result (HasRisen self.old.layers.fills self.new.layers.fills) }
-        ensures counted_failed { IsErrOf result SourceFault.Failed → HasRisen self.old.layers.fills self.new.layers.fills }
-        // The causes.
-        ensures failed { let old = view_of (stacking_in S.view self.old.layers) in let new = view_of (stacking_in S.view self.new.layers) in
-            IsErrOf result SourceFault.Failed → HasRisen (old.faults s) (new.faults s) }
-        ensures unknown { IsErrOf result SourceFault.UnknownHole
-            → (view_of (stacking_in S.view self.old.layers)).knows s hole ≡ false }
-        ensures only_unknown { (view_of (stacking_in S.view self.old.layers)).knows s hole ≡ false
-            → IsErrOf result SourceFault.UnknownHole ⊎ IsErrOf result SourceFault.OutOfMemory }
     {
         recall::<Layers<S>, Brand>(&self.layers);
         fill(alloc, &mut self.layers, s, hole)

@@ -1,8 +1,8 @@
 use Rattle.std.proofs.Common.{List, ℕ, refl, subst}
 use Rattle.std.proofs.lemmas.Result.{err_from_is_err_and}
 use Rattle.bracket_text.specs.Results.{Refuses}
+use Rattle.bracket_text.specs.Stands.{SpellsTree}
 use Rattle.mix_place.specs.Causes.{IsNoTree}
-use Rattle.mix_place.specs.Documents.{SpellsTree}
 use Rattle.mix_place.specs.declared.refusal.FileFault.TheVariants.{Document}
 use Rattle.mix_place.proofs.LoadLaws.{load_stop, load_stop_unread}
 use Rattle.mix_place.proofs.load.mount_tree.Goals as goal

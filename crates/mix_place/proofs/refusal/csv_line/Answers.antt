@@ -1,11 +1,9 @@
 use Rattle.std.proofs.Common.{rules, append_assoc}
+use Rattle.std.specs.Prelude.{string_bytes}
+use Rattle.std.proofs.lemmas.Result.{IfOk-weaker}
+use Rattle.mix_place.specs.Causes.{IsCsvLine}
 use Rattle.mix_place.proofs.refusal.csv_line.Goals as goal
 
-pub returns-in-HeaderDiffers : goal.returns-in-HeaderDiffers
-returns-in-HeaderDiffers c = rw c.in-HeaderDiffers.is (search (rules, append_assoc))
-
-pub returns-in-Length : goal.returns-in-Length
-returns-in-Length c = rw c.in-Length.is (search (rules, append_assoc))
-
-pub returns-in-NotUtf8 : goal.returns-in-NotUtf8
-returns-in-NotUtf8 c = rw c.in-NotUtf8.is (search (rules, append_assoc))
+pub returns-in_default : goal.returns-in_default
+returns-in_default c =
+    IfOk-weaker c.format.result _ (λ line. IsCsvLine c.args.path.now c.args.fault (string_bytes line)) (λ line h. (c.in_default.not-OutOfMemory, search (rules, append_assoc, h))) c.format.ensures.ok

@@ -1,10 +1,7 @@
-use Rattle.std.proofs.Common.{rules, ◌≡◌, sym, ap, subst, arith, ◌-◌, ◌^◌, ◌≤◌, ◌<◌, ◌+◌, ℕ, min}
-use Rattle.std.proofs.lemmas.Result.{IfOk-weaker}
-use Rattle.lxp_core.specs.Plain.{plain}
-use Rattle.view_stack.specs.Beside.{Answers}
-use Rattle.view_stack.specs.Stacks.{stacking_in, view_of, views_of}
+use Rattle.std.proofs.Common.{rules, ◌≡◌, ◌∙◌, sym, subst, arith, ◌-◌, ◌^◌, ◌≤◌, ◌<◌, ◌+◌, ℕ, min}
+use Rattle.lxp_core.proofs.Fills.{refused_at_once}
 use Rattle.view_stack.specs.Steps.{Moved}
-use Rattle.view_stack.proofs.Fills.{base_answers, view_answers}
+use Rattle.view_stack.proofs.Fills.{base_source, view_source}
 use Rattle.view_stack.proofs.Moving.{counted_sound, counted_came}
 use Rattle.view_stack.proofs.filling.fill.Goals as goal
 use Rattle.view_stack.proofs.filling.fill.Goals.{then-s-count, else-s-count}
@@ -37,19 +34,37 @@ pub returns-clause-answers : goal.returns-clause-answers
 returns-clause-answers g c =
     let view = g.S.Sources.view in
     let l = c.args.layers.now in
-    let f = c.saturating_add-layers.result in
+    let s = c.args.s in
     elim c.if-s-count.branch [
       | then-s-count w ↦
-          let n = w.fill_base-answer.new.layers in
-          let within : c.args.s < (view l.base).count = omega (arith, w.if-s-count.true, c.count-count.ensures) in
-          rw (w.answer-is, w.layers-is)
-          (IfOk-weaker w.fill_base-answer.result _ (λ list. Answers (view_of (stacking_in view l)) (view_of (stacking_in view (record n { fills = f }))) c.args.s c.args.hole (plain list.items))
-          (λ list h. base_answers view l n f c.args.s c.args.hole (plain list.items) w.fill_base-answer.ensures.moved.goes.base.count within h) w.fill_base-answer.ensures.answers)
+          let n = record w.fill_base-answer.new.layers { fills = c.saturating_add-layers.result } in
+          let within : s < (view l.base).count = omega (arith, w.if-s-count.true, c.count-count.ensures) in
+          let within' : s < (view n.base).count = omega (arith, within, w.fill_base-answer.ensures.moved.goes.base.count) in
+          rw (w.answer-is, w.layers-is, base_source view l s within, base_source view n s within') w.fill_base-answer.ensures.answers
       | else-s-count w ↦
-          let n = w.fill_view-answer.new.layers in
-          let past : c.args.s < (view l.base).count → ⊥ = λ h. grind (arith, w.if-s-count.false, c.count-count.ensures, h) in
-          rw (w.answer-is, w.layers-is)
-          (IfOk-weaker w.fill_view-answer.result _ (λ list. Answers (view_of (stacking_in view l)) (view_of (stacking_in view (record n { fills = f }))) c.args.s c.args.hole (plain list.items))
-          (λ list h. view_answers view l n f c.args.s c.args.hole (plain list.items) w.fill_view-answer.ensures.moved.goes.base.count past
-          (subst (λ (i : ℕ). Answers (views_of (stacking_in view l)) (views_of (stacking_in view n)) i c.args.hole (plain list.items)) (ap (λ (m : ℕ). c.args.s - m) c.count-count.ensures) h)) w.fill_view-answer.ensures.answers)
+          let n = record w.fill_view-answer.new.layers { fills = c.saturating_add-layers.result } in
+          let count = c.count-count.result in
+          let past : s < count → ⊥ = λ h. grind (arith, w.if-s-count.false, h) in
+          let is : count ≡ (view n.base).count = c.count-count.ensures ∙ sym w.fill_view-answer.ensures.moved.goes.base.count in
+          rw (w.answer-is, w.layers-is, view_source view l s count c.count-count.ensures past, view_source view n s count is past) w.fill_view-answer.ensures.answers
+    ]
+
+pub returns-clause-refused : goal.returns-clause-refused
+returns-clause-refused g c =
+    let view = g.S.Sources.view in
+    let l = c.args.layers.now in
+    let s = c.args.s in
+    elim c.if-s-count.branch [
+      | then-s-count w ↦
+          let n = record w.fill_base-answer.new.layers { fills = c.saturating_add-layers.result } in
+          let within : s < (view l.base).count = omega (arith, w.if-s-count.true, c.count-count.ensures) in
+          let within' : s < (view n.base).count = omega (arith, within, w.fill_base-answer.ensures.moved.goes.base.count) in
+          rw (w.answer-is, w.layers-is, base_source view l s within, base_source view n s within') w.fill_base-answer.ensures.refused
+      | else-s-count w ↦
+          let n = record w.fill_view-answer.new.layers { fills = c.saturating_add-layers.result } in
+          let count = c.count-count.result in
+          let past : s < count → ⊥ = λ h. grind (arith, w.if-s-count.false, h) in
+          let is : count ≡ (view n.base).count = c.count-count.ensures ∙ sym w.fill_view-answer.ensures.moved.goes.base.count in
+          rw (w.answer-is, w.layers-is, view_source view l s count c.count-count.ensures past, view_source view n s count is past)
+          (refused_at_once _ _ _ _ _ w.fill_view-answer.ensures.refused)
     ]

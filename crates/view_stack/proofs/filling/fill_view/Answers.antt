@@ -1,9 +1,9 @@
 use Rattle.std.proofs.Common.{◌≡◌, ◌∷◌, arith, [], Some, refl, sym, ap, subst, ◌∙◌, length, set}
 use Rattle.std.specs.Vec.{with_item}
 use Rattle.std.proofs.lemmas.Result.{err_from_is_err_and}
+use Rattle.lxp_core.specs.Fill.{Answers, source_of}
 use Rattle.lxp_core.specs.Plain.{plain}
 use Rattle.view_stack.specs.declared.layers.Served.{Served}
-use Rattle.view_stack.specs.Beside.{Answers}
 use Rattle.view_stack.specs.Stacks.{stacking_in, view_at, views_of}
 use Rattle.view_stack.specs.Steps.{given}
 use Rattle.view_stack.proofs.Answering.{answers_given}
@@ -101,6 +101,6 @@ returns-clause-answers g c =
     let new : Served = record { view = c.args.view; node = c.in-Some-2.found.node } in
     let few = is_number (length l.served.items) (omega (arith, l.served.ok.0, l.served.ok.1, l.served.small)) in
     let is : plain c.in_ok-list.list.items ≡ given c.in-Some-2.found.label (length l.served.items) c.in-Some.part = c.in_ok-list.ensures ∙ ap (λ n. given c.in-Some-2.found.label n c.in-Some.part) (c.len.ensures ∙ l.served.ok.0) in
-    subst (Answers (views_of k) (views_of k') c.args.view c.args.hole) (sym is)
+    subst (Answers (source_of (views_of k) c.args.view) (source_of (views_of k') c.args.view) c.args.hole) (sym is)
     (answers_given k k' c.args.view c.args.hole c.in-Some.part c.in-Some.ensures.0 (rw c.deref.ensures.value at c.in-Some.ensures.1) m c.find.new.view there (asked_view l.views.items c.args.view c.find.new.view c.requires.view)
     new refl c.in_ok-push.ensures.items few c.in-Some-2.found.label (rw c.deref-2.ensures.value at found.1))

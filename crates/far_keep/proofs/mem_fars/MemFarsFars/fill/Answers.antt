@@ -2,7 +2,7 @@ use Rattle.std.proofs.Common.{◌≡◌, ◌∙◌, ap, arith, false, sym, subst
 use Rattle.std.proofs.lemmas.Bool.{false≢true}
 use Rattle.mix_tree.specs.Weight.{nodes_of}
 use Rattle.lxp_core.specs.declared.open_tree.HoleId.{HoleId}
-use Rattle.lxp_core.specs.Open.{AllHoles, IsProgress, closed, without_holes}
+use Rattle.lxp_core.specs.Open.{begins_with_hole, AllHoles, IsProgress, closed, without_holes}
 use Rattle.lxp_core.specs.Plain.{plain}
 use Rattle.lxp_core.specs.Small.{IsSmall}
 use Rattle.lxp_core.proofs.Opens.{AllHoles-without_holes, closed-without_holes, nodes_of-closed}
@@ -10,7 +10,7 @@ use Rattle.far_keep.specs.Listed.{fails_at, listed, names_call, trees_of}
 use Rattle.far_keep.specs.Memory.{next_call}
 use Rattle.far_keep.specs.Names.{is_far_root}
 use Rattle.far_keep.proofs.Listings.{call_at, list_small, listed_at, small_at}
-use Rattle.far_keep.proofs.Trees.{progress-without_holes}
+use Rattle.far_keep.proofs.Trees.{no_hole_first, progress-without_holes}
 use Rattle.far_keep.proofs.mem_fars.MemFarsFars.fill.Goals as goal
 
 pub returns-clause-whole : goal.returns-clause-whole
@@ -18,28 +18,19 @@ returns-clause-whole c =
     let here = listed_at c.args.self.now.fars.items c.args.far.now c.in-Some.i c.index-4.result.now c.in-Some.ensures c.index-4.ensures in
     c.in_ok-list.ensures ∙ ap (λ o. without_holes (trees_of o)) (sym here)
 
-pub returns-clause-closes : goal.returns-clause-closes
-returns-clause-closes c = λ told.
-    let trees = trees_of (listed c.args.self.now.fars.items c.args.far.now) in
-    ap (closed (λ (h : HoleId). trees)) (returns-clause-whole c) ∙ closed-without_holes (λ (h : HoleId). trees) trees
-
-pub returns-clause-progress : goal.returns-clause-progress
-returns-clause-progress c = subst IsProgress (sym (returns-clause-whole c)) (progress-without_holes _)
-
-pub returns-clause-known : goal.returns-clause-known
-returns-clause-known c = subst (AllHoles is_far_root) (sym (returns-clause-whole c)) (AllHoles-without_holes is_far_root _)
-
-pub returns-clause-lighter : goal.returns-clause-lighter
-returns-clause-lighter c =
-    let trees = trees_of (listed c.args.self.now.fars.items c.args.far.now) in
-    let all = ap nodes_of (ap (closed (λ (h : HoleId). trees)) (returns-clause-whole c) ∙ closed-without_holes (λ (h : HoleId). trees) trees) in
-    omega (arith, nodes_of-closed (λ (h : HoleId). trees) (plain c.in_ok-list.field-0.items), all)
-
-pub returns-clause-small : goal.returns-clause-small
-returns-clause-small c =
+pub returns-clause-answers : goal.returns-clause-answers
+returns-clause-answers c =
     let fars = c.args.self.now.fars.items in
     let m = c.index-4.result.now in
-    subst IsSmall (sym c.in_ok-list.ensures) (list_small m (small_at fars c.args.far.now c.in-Some.i m c.in-Some.ensures c.index-4.ensures c.args.self.now.small))
+    let trees = trees_of (listed fars c.args.far.now) in
+    let closed_list = ap (closed (λ (h : HoleId). trees)) (returns-clause-whole c) ∙ closed-without_holes (λ (h : HoleId). trees) trees in record {
+      closes = λ told. closed_list;
+      progress = subst IsProgress (sym (returns-clause-whole c)) (progress-without_holes _);
+      known = subst (AllHoles is_far_root) (sym (returns-clause-whole c)) (AllHoles-without_holes is_far_root _);
+      lighter = omega (arith, nodes_of-closed (λ (h : HoleId). trees) (plain c.in_ok-list.field-0.items), ap nodes_of closed_list);
+      forward = λ told. subst (λ o. begins_with_hole o ≡ false) (sym (returns-clause-whole c)) (no_hole_first _);
+      small = λ e. subst IsSmall (sym c.in_ok-list.ensures) (list_small m (small_at fars c.args.far.now c.in-Some.i m c.in-Some.ensures c.index-4.ensures c.args.self.now.small));
+    }
 
 pub returns-clause-fails : goal.returns-clause-fails
 returns-clause-fails c = λ known fails.

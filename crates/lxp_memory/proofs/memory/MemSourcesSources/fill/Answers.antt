@@ -1,4 +1,4 @@
-use Rattle.std.proofs.Common.{◌≡◌, ◌≤◌, false, ap, subst, sym, ◌∙◌, slice_index}
+use Rattle.std.proofs.Common.{◌≡◌, ◌≤◌, false, inl, refl, ap, subst, sym, ◌∙◌, slice_index}
 use Rattle.std.proofs.lemmas.Bool.{false≢true}
 use Rattle.mix_tree.specs.Weight.{nodes_of}
 use Rattle.lxp_core.specs.declared.open_tree.HoleId.{HoleId}
@@ -11,22 +11,10 @@ use Rattle.lxp_memory.specs.Documents.{nodes_at}
 use Rattle.lxp_memory.proofs.DocumentLaws.{nodes_at-read, known_at, next_list_answers, next_list_small}
 use Rattle.lxp_memory.proofs.memory.MemSourcesSources.fill.Goals as goal
 
-pub returns-in_default-clause-unknown : goal.returns-in_default-clause-unknown
-returns-in_default-clause-unknown c = λ e.
-    ap (λ ns. has_span ns (hole_span c.args.hole)) (nodes_at-read c.args.self.now.docs.items c.args.s _ c.requires c.index.ensures) ∙ c.in_default.ensures
-
 pub returns-in_default-clause-fails : goal.returns-in_default-clause-fails
 returns-in_default-clause-fails c = λ known next.
     let unknown = ap (λ ns. has_span ns (hole_span c.args.hole)) (nodes_at-read c.args.self.now.docs.items c.args.s _ c.requires c.index.ensures) ∙ c.in_default.ensures in
     absurd (false≢true (sym unknown ∙ known))
-
-pub returns-then-fails_next-clause-only_unknown : goal.returns-then-fails_next-clause-only_unknown
-returns-then-fails_next-clause-only_unknown c = λ unknown.
-    absurd (false≢true (sym unknown ∙ known_at c.args.self.now.docs.items c.args.s c.args.hole _ _ c.requires c.index.ensures c.in-Some.ensures))
-
-pub returns-clause-only_unknown : goal.returns-clause-only_unknown
-returns-clause-only_unknown c = λ unknown.
-    absurd (false≢true (sym unknown ∙ known_at c.args.self.now.docs.items c.args.s c.args.hole _ _ c.requires c.index.ensures c.in-Some.ensures))
 
 pub returns-clause-list : goal.returns-clause-list
 returns-clause-list c =
@@ -38,41 +26,34 @@ returns-clause-list c =
     ∙ ap (λ choice. cut ns choice c.in-Some.span) chosen
     ∙ ap (cut ns (choice_of (slice_index m.circle.bytes.items m.circle.turn) m.forward)) c.in-Some.ensures.0
 
-pub returns-clause-closes : goal.returns-clause-closes
-returns-clause-closes c = λ told.
+pub returns-clause-answers : goal.returns-clause-answers
+returns-clause-answers c =
     let m = c.args.self.now in
     let known = known_at m.docs.items c.args.s c.args.hole _ _ c.requires c.index.ensures c.in-Some.ensures in
-    ap (closed (λ h. span_trees (nodes_at m.docs.items c.args.s) (hole_span h))) (returns-clause-list c)
-    ∙ (next_list_answers m c.args.s c.args.hole c.requires known).closes
-
-pub returns-clause-progress : goal.returns-clause-progress
-returns-clause-progress c =
-    let m = c.args.self.now in
-    let known = known_at m.docs.items c.args.s c.args.hole _ _ c.requires c.index.ensures c.in-Some.ensures in
-    subst IsProgress (sym (returns-clause-list c)) (next_list_answers m c.args.s c.args.hole c.requires known).progress
-
-pub returns-clause-known : goal.returns-clause-known
-returns-clause-known c =
-    let m = c.args.self.now in
-    let known = known_at m.docs.items c.args.s c.args.hole _ _ c.requires c.index.ensures c.in-Some.ensures in
-    subst (AllHoles (λ h. has_span (nodes_at m.docs.items c.args.s) (hole_span h))) (sym (returns-clause-list c)) (next_list_answers m c.args.s c.args.hole c.requires known).known
-
-pub returns-clause-lighter : goal.returns-clause-lighter
-returns-clause-lighter c =
-    let m = c.args.self.now in
-    let known = known_at m.docs.items c.args.s c.args.hole _ _ c.requires c.index.ensures c.in-Some.ensures in
+    let is = next_list_answers m c.args.s c.args.hole c.requires known in
     let weight = λ (h : HoleId). nodes_of (span_trees (nodes_at m.docs.items c.args.s) (hole_span h)) in
-    subst (λ o. weight_of weight o ≤ weight c.args.hole) (sym (returns-clause-list c)) (next_list_answers m c.args.s c.args.hole c.requires known).lighter
+    let list = returns-clause-list c in record {
+      closes = λ told. ap (closed (λ h. span_trees (nodes_at m.docs.items c.args.s) (hole_span h))) list ∙ is.closes;
+      progress = subst IsProgress (sym list) is.progress;
+      known = subst (AllHoles (λ h. has_span (nodes_at m.docs.items c.args.s) (hole_span h))) (sym list) is.known;
+      lighter = subst (λ o. weight_of weight o ≤ weight c.args.hole) (sym list) is.lighter;
+      forward = λ forward.
+          subst (λ o. begins_with_hole o ≡ false) (sym list) (is.forward (ap (leads_of (slice_index m.circle.bytes.items m.circle.turn)) forward));
+      small = λ small. subst IsSmall (sym list) (next_list_small m c.args.s c.args.hole c.requires known);
+    }
 
-pub returns-clause-small : goal.returns-clause-small
-returns-clause-small c = λ small.
-    let m = c.args.self.now in
-    let known = known_at m.docs.items c.args.s c.args.hole _ _ c.requires c.index.ensures c.in-Some.ensures in
-    subst IsSmall (sym (returns-clause-list c)) (next_list_small m c.args.s c.args.hole c.requires known)
+pub returns-in_default-clause-refused : goal.returns-in_default-clause-refused
+returns-in_default-clause-refused c =
+    let items = c.args.self.now.docs.items in
+    let unknown = ap (λ ns. has_span ns (hole_span c.args.hole)) (nodes_at-read items c.args.s _ c.requires c.index.ensures) ∙ c.in_default.ensures in
+    record { failed = λ e. cc e; unknown = λ e. unknown; only_unknown = λ e. inl refl }
 
-pub returns-clause-forward : goal.returns-clause-forward
-returns-clause-forward c = λ forward.
-    let m = c.args.self.now in
-    let known = known_at m.docs.items c.args.s c.args.hole _ _ c.requires c.index.ensures c.in-Some.ensures in
-    let held = ap (leads_of (slice_index m.circle.bytes.items m.circle.turn)) forward in
-    subst (λ o. begins_with_hole o ≡ false) (sym (returns-clause-list c)) ((next_list_answers m c.args.s c.args.hole c.requires known).forward held)
+pub returns-then-fails_next-clause-refused : goal.returns-then-fails_next-clause-refused
+returns-then-fails_next-clause-refused c =
+    let known = known_at c.args.self.now.docs.items c.args.s c.args.hole _ _ c.requires c.index.ensures c.in-Some.ensures in
+    record { failed = λ e. c.fail.ensures.faults; unknown = λ e. cc e; only_unknown = λ unknown. absurd (false≢true (sym unknown ∙ known)) }
+
+pub returns-clause-refused : goal.returns-clause-refused
+returns-clause-refused c =
+    let known = known_at c.args.self.now.docs.items c.args.s c.args.hole _ _ c.requires c.index.ensures c.in-Some.ensures in
+    record { failed = λ e. cc e; unknown = λ e. cc e; only_unknown = λ unknown. absurd (false≢true (sym unknown ∙ known)) }

@@ -2,7 +2,7 @@ use Rattle.std.proofs.Common.{◌≡◌, ◌∙◌, ◌≤◌, ℕ, nat_le, true
 use Rattle.std.proofs.lemmas.Bool.Decides.{nat_tests}
 use Rattle.csv_wrap.specs.Document.{has_part}
 use Rattle.csv_wrap.proofs.RowFacts.{length-cut}
-use Rattle.csv_wrap.proofs.document.CsvDoc.give.Goals as goal
+use Rattle.csv_wrap.proofs.document.CsvDoc.give_part.Goals as goal
 
 -- what a test of a count says of it
 at_most : (first rows count : ℕ) → count ≡ rows → nat_le first count ≡ true → first ≤ rows

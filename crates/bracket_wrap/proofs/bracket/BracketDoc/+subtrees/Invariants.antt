@@ -2,10 +2,10 @@ use Rattle.std.proofs.Common.{◌≡◌, ◌≤◌, ◌-◌}
 use Rattle.lxp_core.specs.Open.{without_holes}
 use Rattle.lxp_core.specs.Plain.{put_all}
 use Rattle.document_store.specs.Between.{between}
-use Rattle.bracket_wrap.proofs.bracket.BracketDoc.+whole.Given as goal
+use Rattle.bracket_wrap.proofs.bracket.BracketDoc.+subtrees.Given as goal
 
-abbrev pub decreases-whole : goal.decreases-whole
-decreases-whole l = l.to - l.from
+abbrev pub decreases-subtrees : goal.decreases-subtrees
+decreases-subtrees l = l.to - l.from
 
 abbrev pub invariant-loop-i : goal.invariant-loop-i
 invariant-loop-i l = record {

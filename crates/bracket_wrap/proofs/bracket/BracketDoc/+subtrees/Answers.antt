@@ -4,7 +4,7 @@ use Rattle.lxp_core.specs.Plain.{put_all}
 use Rattle.document_store.specs.Laid.{node_at}
 use Rattle.document_store.specs.Between.{before, between}
 use Rattle.document_store.proofs.Between.{between_first, between_none}
-use Rattle.bracket_wrap.proofs.bracket.BracketDoc.+whole.Goals as goal
+use Rattle.bracket_wrap.proofs.bracket.BracketDoc.+subtrees.Goals as goal
 
 pub loop-i-preserved : goal.loop-i-preserved
 loop-i-preserved t c =

@@ -4,7 +4,7 @@ use Rattle.table_wrap.specs.declared.parts.Part.{Part}
 use Rattle.table_wrap.specs.declared.parts.Part.TheVariants.{Name}
 use Rattle.table_wrap.specs.Document.{IsAnswer}
 use Rattle.table_wrap.proofs.Given.{answer_name}
-use Rattle.table_wrap.proofs.document.TableDoc.give.Goals as goal
+use Rattle.table_wrap.proofs.document.TableDoc.give_part.Goals as goal
 
 pub returns-in_ok-give_name-in-Name-clause-answer : goal.returns-in_ok-give_name-in-Name-clause-answer
 returns-in_ok-give_name-in-Name-clause-answer g c =

@@ -2,7 +2,7 @@ use Rattle.std.proofs.Common.{◌≡◌, ◌≤◌}
 use Rattle.lxp_core.specs.Plain.{put_all}
 use Rattle.document_store.specs.Between.{before}
 use Rattle.bracket_wrap.specs.Holes.{given_from}
-use Rattle.bracket_wrap.proofs.bracket.BracketDoc.give.Given as goal
+use Rattle.bracket_wrap.proofs.bracket.BracketDoc.next_children.Given as goal
 
 abbrev pub invariant-loop-left : goal.invariant-loop-left
 invariant-loop-left l = record {

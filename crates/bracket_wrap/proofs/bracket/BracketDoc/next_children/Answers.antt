@@ -5,7 +5,7 @@ use Rattle.document_store.specs.Laid.{node_at}
 use Rattle.document_store.specs.Between.{before, fits}
 use Rattle.bracket_wrap.specs.Holes.{kids_given, given_from}
 use Rattle.bracket_wrap.proofs.Given.{given-some, given-rest}
-use Rattle.bracket_wrap.proofs.bracket.BracketDoc.give.Goals as goal
+use Rattle.bracket_wrap.proofs.bracket.BracketDoc.next_children.Goals as goal
 
 pub loop-left-preserved : goal.loop-left-preserved
 loop-left-preserved c =
