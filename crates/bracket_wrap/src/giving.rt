@@ -73,7 +73,12 @@ impl BracketDoc {
     }
 
     // The trees between two positions, without holes.
-    fn subtrees(&self, alloc: Global, from: usize, mut to: usize) -> Result<Vec<OpenTree>, AllocError>
+    fn subtrees(
+        &self,
+        alloc: Global,
+        from: usize,
+        mut to: usize,
+    ) -> Result<Vec<OpenTree>, AllocError>
         requires { to ≤ length self.now.nodes }
         ensures { IfOk result (λ list. plain list.items ≡ without_holes (between self.now.nodes from to)) }
     {

@@ -58,7 +58,7 @@ known_told v w o o' s h a is keeps told there i n e = go a is.taken is.kept
     old f = let was = there i n f in (keeps.knows s i was.0, was.1 ∙ sym (keeps.weight s i was.0))
 
     listed : (x : Wired) → IsListOf v.peer w.peer s h x → Contains (holes_of x) (i, n) → (w.peer.knows s i ≡ true) × (n ≡ w.peer.weight s i)
-    listed x l c = (hole_passes (w.peer.knows s) x i n l.known c, hole_weight v.peer w.peer s h x l i n c)
+    listed x l c = (hole_passes (w.peer.knows s) x i n l.answers.known c, hole_weight v.peer w.peer s h x l i n c)
 
     go : (a : Answered) → GivesTaken v w o o' s h a → KeepsKnown o o' a → (w.peer.knows s i ≡ true) × (n ≡ w.peer.weight s i)
     go (Ok list) taken kept = elim (taken.2.learns.only i n e) [ inl f ↦ old f | inr c ↦ listed taken.2.wired (taken.2.told told).answers.2 c ]
@@ -170,7 +170,7 @@ module _ (v w : LinkView) (before after : List Peer) (m n s : ℕ) (h : HoleId) 
       let now : w.told ≡ true = sym same ∙ both.0 in
       ap (λ (f : HoleId → Forest). closed f (plain list.items)) (told_forest w.told (w.peer.forest s) now)
       ∙ ap (closed (w.peer.forest s)) t.2.same
-      ∙ (t.2.told both.0).answers.2.closes both.1
+      ∙ (t.2.told both.0).answers.2.answers.closes both.1
       ∙ sym (ap (λ (f : HoleId → Forest). f h) (told_forest v.told (v.peer.forest s) both.0))
 
   -- it keeps progress
@@ -199,7 +199,7 @@ module _ (v w : LinkView) (before after : List Peer) (m n s : ℕ) (h : HoleId) 
   forward_filled : (a : Answered) → GivesTaken v w (slice_get before s) (slice_get after s) s h a
       → IfOk a (λ list. (view_of (remoting v before m)).forward s ≡ true → begins_with_hole (plain list.items) ≡ false)
   forward_filled (Err e) t = tt
-  forward_filled (Ok list) t = λ f. let both = both_true v.told (v.peer.forward s) f in ap begins_with_hole t.2.same ∙ (t.2.told both.0).answers.2.forward both.1
+  forward_filled (Ok list) t = λ f. let both = both_true v.told (v.peer.forward s) f in ap begins_with_hole t.2.same ∙ (t.2.told both.0).answers.2.answers.forward both.1
 
   -- it is small enough for a wire
   small_filled : (a : Answered) → GivesTaken v w (slice_get before s) (slice_get after s) s h a → IfOk a (λ list. IsSmall (plain list.items))

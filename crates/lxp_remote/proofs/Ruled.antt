@@ -77,7 +77,7 @@ pub told_keep : ToldListsKeepRules
 told_keep old new s h o known is agree =
     let w = new.weight s in
     let p = without_weights o in (
-      (is.progress, omega (arith, ap total_of is.weighed, total_is w p, is.lighter)),
+      (is.answers.progress, omega (arith, ap total_of is.weighed, total_is w p, is.answers.lighter)),
       λ c. unchanged w (holes_of (with_weights w p)) known (are_weights w p) agree (subst (λ q. IsChanged known (holes_of q)) is.weighed c),
     )
 

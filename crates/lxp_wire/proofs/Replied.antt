@@ -2,7 +2,7 @@
 use Rattle.std.proofs.Common.{◌≡◌, ℕ, ◌+◌, ◌<◌, ◌≤◌, Bool, true, false, List, [], ◌∷◌, ◌++◌, refl, ap, subst, sym, ◌∙◌, append_assoc, arith}
 use Rattle.lxp_core.specs.declared.open_tree.HoleId.{HoleId}
 use Rattle.lxp_core.specs.declared.open_tree.OpenTree.{OpenTree}
-use Rattle.lxp_core.specs.Open.{closed, weight_of, AllHoles, IsProgress, begins_with_hole}
+use Rattle.lxp_core.specs.Fill.{Answers as AnswersHole, source_of}
 use Rattle.lxp_core.specs.Plain.{plain}
 use Rattle.lxp_core.specs.Small.{IsSmall, tops_of}
 use Rattle.lxp_core.specs.View.{View, Keeps}
@@ -15,10 +15,9 @@ use Rattle.lxp_wire.proofs.Served.{without-with}
 
 -- a list that sources answered, with its weights
 pub list_answered : (old new : View) (s : ℕ) (h : HoleId) (ts : List OpenTree) (before after : List ℕ) → Keeps old new → new.fills ≤ old.fills + 1 → s < old.count → old.knows s h ≡ true
-    → (old.told s ≡ true → closed (new.forest s) (plain ts) ≡ old.forest s h) → IsProgress (plain ts) → AllHoles (new.knows s) (plain ts) → weight_of (new.weight s) (plain ts) ≤ old.weight s h
-    → (old.forward s ≡ true → begins_with_hole (plain ts) ≡ false) → IsSmall (plain ts) → AreTrees (with_weights (new.weight s) (plain ts))
+    → AnswersHole (source_of old s) (source_of new s) h (plain ts) → IsSmall (plain ts) → AreTrees (with_weights (new.weight s) (plain ts))
     → after ≡ (before ++ 0x82 ∷ []) ++ list_bytes (with_weights (new.weight s) (plain ts)) → HasAnswered old new (Fill s h) before after
-list_answered old new s h ts before after keeps fills inside known closes progress holes lighter forward small are text =
+list_answered old new s h ts before after keeps fills inside known answers small are text =
     let o = with_weights (new.weight s) (plain ts) in
     let same : without_weights o ≡ plain ts = without-with (new.weight s) (plain ts) in (
       list o,
@@ -31,11 +30,7 @@ list_answered old new s h ts before after keeps fills inside known closes progre
           known,
           record {
             weighed = ap (with_weights (new.weight s)) (sym same);
-            closes = λ told. ap (closed (new.forest s)) same ∙ closes told;
-            progress = subst IsProgress (sym same) progress;
-            known = subst (AllHoles (new.knows s)) (sym same) holes;
-            lighter = subst (λ p. weight_of (new.weight s) p ≤ old.weight s h) (sym same) lighter;
-            forward = λ f. ap begins_with_hole same ∙ forward f;
+            answers = subst (AnswersHole (source_of old s) (source_of new s) h) (sym same) answers;
             small = subst IsSmall (sym same) small;
           },
         );

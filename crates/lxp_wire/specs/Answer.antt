@@ -2,7 +2,7 @@
 use Rattle.std.specs.Prelude.{◌≡◌, ℕ, ◌+◌, ◌<◌, ◌≤◌, true, false, List, [], ◌∷◌, ◌++◌}
 use Rattle.mix_base.specs.Counts.{HasRisen}
 use Rattle.lxp_core.specs.declared.open_tree.HoleId.{HoleId}
-use Rattle.lxp_core.specs.Open.{closed, weight_of, AllHoles, IsProgress, begins_with_hole}
+use Rattle.lxp_core.specs.Fill.{Answers as AnswersHole, source_of}
 use Rattle.lxp_core.specs.Small.{IsSmall}
 use Rattle.lxp_core.specs.View.{View, Keeps}
 use Rattle.wire_text.specs.declared.request.Request.{Request}
@@ -10,14 +10,10 @@ use Rattle.wire_text.specs.declared.request.Request.TheVariants.{Count, Root, Fi
 use Rattle.wire_text.specs.Wired.{Wired, without_weights, with_weights}
 use Rattle.wire_text.specs.Reply.{Said, count, root, list, failed, unknown_hole, no_memory, no_source, IsReply, reply_bytes}
 
--- the list is one that a fill of the hole may answer, and each hole in it comes with its weight
+-- the list is one that a fill of the hole may answer, each hole in it comes with its weight, and it is small enough for a wire
 pub record IsListOf (old new : View) (s : ℕ) (h : HoleId) (o : Wired) : Type 0 where
   pub weighed : o ≡ with_weights (new.weight s) (without_weights o)
-  pub closes : old.told s ≡ true → closed (new.forest s) (without_weights o) ≡ old.forest s h
-  pub progress : IsProgress (without_weights o)
-  pub known : AllHoles (new.knows s) (without_weights o)
-  pub lighter : weight_of (new.weight s) (without_weights o) ≤ old.weight s h
-  pub forward : old.forward s ≡ true → begins_with_hole (without_weights o) ≡ false
+  pub answers : AnswersHole (source_of old s) (source_of new s) h (without_weights o)
   pub small : IsSmall (without_weights o)
 
 -- how many sources there are

@@ -32,7 +32,7 @@ pub push_open_list-requires-clause-few : goal.push_open_list-requires-clause-few
 push_open_list-requires-clause-few g c =
     let old = g.S.Sources.view c.args.sources.now in
     let inside : c.args.source < old.count = omega (arith, c.if-source-count.false, c.count.ensures) in
-    let small : IsSmall (plain c.in-Ok.list.items) = c.in-Ok.ensures.small (g.met.S.Weighed.all_small c.args.sources.now c.args.source inside) in
+    let small : IsSmall (plain c.in-Ok.list.items) = c.in-Ok.ensures.answers.small (g.met.S.Weighed.all_small c.args.sources.now c.args.source inside) in
     omega (arith, small.0, tops_of-plain c.in-Ok.list.items, ap length c.deref.ensures.value)
 
 pub returns-in_ok-push_open_list-in-Ok-clause-answered : goal.returns-in_ok-push_open_list-in-Ok-clause-answered
@@ -43,11 +43,11 @@ returns-in_ok-push_open_list-in-Ok-clause-answered g c =
     let ts = c.in-Ok.list.items in
     let said = c.in-Ok.ensures in
     let inside : s < old.count = omega (arith, c.if-source-count.false, c.count.ensures) in
-    let small : IsSmall (plain ts) = said.small (g.met.S.Weighed.all_small c.args.sources.now s inside) in
-    let known : old.knows s c.args.hole ≡ true = known_of (old.knows s c.args.hole) (λ e. elim (said.only_unknown e) [ inl p ↦ not_ok c.in-Ok.list UnknownHole p | inr p ↦ not_ok c.in-Ok.list OutOfMemory p ]) in
+    let small : IsSmall (plain ts) = said.answers.small (g.met.S.Weighed.all_small c.args.sources.now s inside) in
+    let known : old.knows s c.args.hole ≡ true = known_of (old.knows s c.args.hole) (λ e. elim (said.refused.only_unknown e) [ inl p ↦ not_ok c.in-Ok.list UnknownHole p | inr p ↦ not_ok c.in-Ok.list OutOfMemory p ]) in
     let are : AreTrees (with_weights (new.weight s) (plain ts)) = subst (λ us. AreTrees (with_weights (new.weight s) (plain us))) c.deref.ensures.value c.in_ok-push_open_list-in-Ok.ensures.trees in
-    list_answered old new s c.args.hole ts c.args.out.now.items c.push_open_list.new.out.items (g.met.S.Sources.keeps c.args.sources.now c.fill.new.self said.came) said.at_most_one inside known said.closes said.progress
-    said.known said.lighter said.forward small are
+    list_answered old new s c.args.hole ts c.args.out.now.items c.push_open_list.new.out.items (g.met.S.Sources.keeps c.args.sources.now c.fill.new.self said.came) said.counted.at_most_one inside known said.answers
+    small are
     (c.in_ok-push_open_list-in-Ok.ensures.bytes ∙ ap (λ us. c.push-in-Ok.new.self.items ++ list_bytes (with_weights (new.weight s) (plain us))) c.deref.ensures.value
     ∙ ap (λ x. x ++ list_bytes (with_weights (new.weight s) (plain ts))) c.in_ok-push-in-Ok.ensures.items)
 
@@ -61,14 +61,14 @@ returns-in_ok-push-in-Err-Failed-clause-answered g c =
       c.in_ok-push-in-Err-Failed.ensures.items,
       record {
         keeps = g.met.S.Sources.keeps c.args.sources.now c.fill.new.self said.came;
-        fills = said.at_most_one;
+        fills = said.counted.at_most_one;
         answers = (
           inside,
-          known_of (old.knows s c.args.hole) (λ e. elim (said.only_unknown e) [
+          known_of (old.knows s c.args.hole) (λ e. elim (said.refused.only_unknown e) [
             | inl p ↦ not_failed {T = Vec OpenTree} c.in-Err-Failed.field-0 UnknownHole (λ q. cc) c.in-Err-Failed.field-0-is p
             | inr p ↦ not_failed {T = Vec OpenTree} c.in-Err-Failed.field-0 OutOfMemory (λ q. cc) c.in-Err-Failed.field-0-is p
           ]),
-          said.failed (ap (λ e. Err e) c.in-Err-Failed.field-0-is),
+          said.refused.failed (ap (λ e. Err e) c.in-Err-Failed.field-0-is),
         );
         reply = tt;
       },
@@ -83,8 +83,8 @@ returns-in_ok-push-in-Err-UnknownHole-clause-answered g c =
       c.in_ok-push-in-Err-UnknownHole.ensures.items,
       record {
         keeps = g.met.S.Sources.keeps c.args.sources.now c.fill.new.self said.came;
-        fills = said.at_most_one;
-        answers = (inside, said.unknown (ap (λ e. Err e) c.in-Err-UnknownHole.field-0-is));
+        fills = said.counted.at_most_one;
+        answers = (inside, said.refused.unknown (ap (λ e. Err e) c.in-Err-UnknownHole.field-0-is));
         reply = tt;
       },
     )
@@ -96,7 +96,7 @@ returns-in_ok-push-in-Err-OutOfMemory-clause-answered g c =
       c.in_ok-push-in-Err-OutOfMemory.ensures.items,
       record {
         keeps = g.met.S.Sources.keeps c.args.sources.now c.fill.new.self said.came;
-        fills = said.at_most_one;
+        fills = said.counted.at_most_one;
         answers = tt;
         reply = tt;
       },
