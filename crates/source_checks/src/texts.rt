@@ -1,7 +1,10 @@
 // Whether the text of a source's file is the document that the catalog declares.
 ghost use Rattle.std.specs.Prelude.{◌≡◌, true, IfOk};
+ghost use Rattle.bracket_text.specs.Stands.{SpellsTree};
+ghost use Rattle.csv_wrap.specs.Stands.{HoldsRows};
+ghost use Rattle.json_text.specs.Stands.{HoldsValue};
 ghost use Rattle.mix_place.specs.Causes.{IsNoCsv, IsNoJson, IsNoTree};
-ghost use Rattle.mix_place.specs.Documents.{HoldsRows, HoldsValue, SpellsTree, StandsFor, StandsForNone, is_file_of};
+ghost use Rattle.mix_place.specs.Documents.{StandsFor, StandsForNone, is_file_of};
 ghost use Rattle.source_checks.specs.Texts.{Judges};
 
 use bracket_text::{BracketFault, read_document};
