@@ -1,4 +1,4 @@
-use Rattle.std.proofs.Common.{◌≡◌, ◌∷◌, arith, [], Some, refl, sym, ap, subst, ◌∙◌, length, set}
+use Rattle.std.proofs.Common.{rules, ◌≡◌, ◌∷◌, arith, [], Some, refl, sym, ap, subst, ◌∙◌, length, set}
 use Rattle.std.specs.Vec.{with_item}
 use Rattle.std.proofs.lemmas.Result.{err_from_is_err_and}
 use Rattle.lxp_core.specs.Fill.{Answers, source_of}
@@ -9,7 +9,7 @@ use Rattle.view_stack.specs.Steps.{given}
 use Rattle.view_stack.proofs.Answering.{answers_given}
 use Rattle.view_stack.proofs.Moving.{unmoved, moved_on, moved_at, written_back, read_view, asked_view}
 use Rattle.view_stack.proofs.Stepping.{err_other, part_stands}
-use Rattle.lxp_core.specs.declared.fault.SourceFault.TheVariants.{Failed}
+use Rattle.lxp_core.specs.declared.fault.SourceFault.TheVariants.{Failed, UnknownHole}
 use Rattle.view_stack.proofs.Views.{view_failed}
 use Rattle.view_stack.proofs.Weights.{is_number}
 use Rattle.view_stack.proofs.filling.fill_view.Goals as goal
@@ -43,8 +43,8 @@ returns-in_err-found-clause-moved g c =
     moved_on g.S.Sources.view g.S.Sources.came_from c.views_are_kept.ensures l _ (g.met.S.Sources.keeps l.base c.find.new.base stepped.came) c.requires.sound c.args.view c.in-Some-index_mut.walk c.find.new.view c.requires.view there refl
     stepped refl refl
 
-pub returns-in_err-found-clause-failed : goal.returns-in_err-found-clause-failed
-returns-in_err-found-clause-failed g c =
+pub returns-in_err-found-clause-refused : goal.returns-in_err-found-clause-refused
+returns-in_err-found-clause-refused g c =
     let l = c.args.layers.now in
     let v = g.S.Sources.view l.base in
     let v' = g.S.Sources.view c.find.new.base in
@@ -52,9 +52,12 @@ returns-in_err-found-clause-failed g c =
     let there = read_view l.views.items c.args.view c.index_mut.result.now m c.requires.view c.index_mut.ensures.value c.in-Some-index_mut.is in
     let stepped = c.find.ensures.stepped in
     let p = err_from_is_err_and c.from_residual.result c.from_residual.ensures.1 in
-    λ e.
-    view_failed v v' m c.find.new.view (view_at l.views.items c.args.view) (view_at (set l.views.items c.args.view (Some c.find.new.view)) c.args.view) there (asked_view l.views.items c.args.view c.find.new.view c.requires.view)
-    (c.requires.sound.views c.args.view m there) (g.met.S.Sources.keeps l.base c.find.new.base stepped.came) stepped.kept (c.in_err-found.ensures.failed (err_other c.in_err-found.field-0.0 Failed (rw (p.1, p.2) at e)))
+    record {
+      failed = λ e. view_failed v v' m c.find.new.view (view_at l.views.items c.args.view) (view_at (set l.views.items c.args.view (Some c.find.new.view)) c.args.view) there (asked_view l.views.items c.args.view c.find.new.view c.requires.view)
+          (c.requires.sound.views c.args.view m there) (g.met.S.Sources.keeps l.base c.find.new.base stepped.came) stepped.kept (c.in_err-found.ensures.failed (err_other c.in_err-found.field-0.0 Failed (rw (p.1, p.2) at e)));
+      unknown = λ e. absurd (c.in_err-found.ensures.known (err_other c.in_err-found.field-0.0 UnknownHole (rw (p.1, p.2) at e)));
+      only_unknown = λ e. search rules;
+    }
 
 pub returns-in_default-2-clause-moved : goal.returns-in_default-2-clause-moved
 returns-in_default-2-clause-moved g c =

@@ -1,4 +1,4 @@
-use Rattle.std.proofs.Common.{◌≤◌, ◌∙◌, inl, inr, set, ap, subst, sym, arith}
+use Rattle.std.proofs.Common.{rules, ◌≤◌, ◌∙◌, inl, inr, set, ap, subst, sym, arith}
 use Rattle.std.proofs.lemmas.Bool.{false≢true}
 use Rattle.mix_base.specs.Counts.{HasRisen}
 use Rattle.far_keep.specs.declared.far_source.FarSource.{FarSource}
@@ -25,8 +25,8 @@ returns-in-Err-Fault-clause-keeps g c =
     fars_kept (standing_of g.L.Link.view c.args.self.now.lines.items) (standing_of g.L.Link.view c.fill_line.new.lines.items)
     (faults_of c.args.self.now.asked.items) (faults_of (set mid i y)) c.fill_line.ensures.keeps rises
 
-pub returns-in-Err-Fault-clause-failed : goal.returns-in-Err-Fault-clause-failed
-returns-in-Err-Fault-clause-failed g c = λ e.
+pub returns-in-Err-Fault-clause-refused : goal.returns-in-Err-Fault-clause-refused
+returns-in-Err-Fault-clause-refused g c =
     let mid = c.note_asked.new.asked.items in
     let far = c.args.far.now in
     let i = c.in_ok-place.place in
@@ -35,7 +35,11 @@ returns-in-Err-Fault-clause-failed g c = λ e.
     let same = ap (λ f. is_same f far) c.count.ensures.far in
     let before = sym (c.in_ok-place.ensures.faults far) ∙ ap faults_in (there (is_of far) mid i x y c.in_ok-place.ensures.place c.index_mut.ensures.value same) in
     let after = ap faults_in (put_there (is_of far) mid i x y c.in_ok-place.ensures.place c.index_mut.ensures.value same) in
-    subst (λ n. HasRisen n (faults_of (set mid i y) far)) (sym before) (subst (HasRisen x.faults) (sym after) c.count.ensures.faults)
+    record {
+      failed = λ e. subst (λ n. HasRisen n (faults_of (set mid i y) far)) (sym before) (subst (HasRisen x.faults) (sym after) c.count.ensures.faults);
+      unknown = λ e. cc e;
+      only_unknown = λ e. search rules;
+    }
 
 pub returns-in-Err-Fault-clause-named : goal.returns-in-Err-Fault-clause-named
 returns-in-Err-Fault-clause-named g c = λ e.
