@@ -1,3 +1,4 @@
+pub mod Field
 pub mod Header
 pub mod Law
 pub mod Lines

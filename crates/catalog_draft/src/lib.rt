@@ -2,6 +2,7 @@
 #![tactic(auto)]
 
 mod columns;
+mod field;
 mod header;
 mod law;
 mod lines;
@@ -10,6 +11,7 @@ mod reasons;
 mod records;
 mod tables;
 
+pub use field::{HeaderField, header_field};
 pub use header::describe_csv;
 pub use law::{headers_are_read, tables_are_read};
 pub use tables::describe_tables;

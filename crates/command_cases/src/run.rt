@@ -35,12 +35,16 @@ fn call(
     alloc: Global,
     words: &[String],
     files: &mut MemFiles,
-    stores: Stores<MemTables, MemFars>,
+    mut stores: Stores<MemTables, MemFars>,
     streams: &mut Streams<MemInput, MemSink>,
 ) -> (u8, Stores<MemTables, MemFars>) {
     match words {
         [word, ..] if word.as_str() == "explain" => {
-            (mixq_explain(alloc, words, files, &mut streams.out), stores)
+            let tables = &mut stores.tables;
+            (
+                mixq_explain(alloc, words, files, tables, &mut streams.out),
+                stores,
+            )
         }
         [word, ..] if word.as_str() == "serve" => {
             mixq_serve_over(alloc, words, files, stores, streams)

@@ -30,12 +30,16 @@ fn answer(
     alloc: Global,
     words: &[String],
     files: &mut OsFiles,
-    stores: Stores<SqliteTables, FarLinks<FileLink, FileDial>>,
+    mut stores: Stores<SqliteTables, FarLinks<FileLink, FileDial>>,
     streams: &mut Streams<StdInput, StdSink>,
 ) -> u8 {
     let (status, _) = match words {
         [word, ..] if word.as_str() == "explain" => {
-            (mixq_explain(alloc, words, files, &mut streams.out), stores)
+            let tables = &mut stores.tables;
+            (
+                mixq_explain(alloc, words, files, tables, &mut streams.out),
+                stores,
+            )
         }
         [word, ..] if word.as_str() == "serve" => {
             mixq_serve_over(alloc, words, files, stores, streams)

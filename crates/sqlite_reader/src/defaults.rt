@@ -1,7 +1,8 @@
 // Columns that a table was given when it had rows already. Such a row ends before the column, whose default stands in its place.
-use crate::{Query, ReadFault};
+use crate::{Query, ReadFault, Reason};
 use page_disk::PageDisk;
 use sqlite_schema::code::{lend_value, own_value};
+use sqlite_schema::names::same_name;
 use sqlite_schema::schema::{Column, Kind, Schema, Table};
 use sqlite_sql::numeral::is_numeral;
 use sqlite_store::FileStore;
@@ -9,6 +10,9 @@ use sqlite_trees::store::Store;
 use sqlite_value::row::Row;
 use sqlite_value::value::{Value, ValueRef};
 use std::alloc::{AllocError, Global};
+
+/// The names by which SQLite knows the number of a row.
+pub const ROW_NUMBERS: [&[u8]; 3] = [b"rowid", b"oid", b"_rowid_"];
 
 /// A column that rows of its table may lack, and that is asked.
 #[derive(Drop)]
@@ -83,7 +87,7 @@ pub fn late_columns(
     query: &Query<'_>,
 ) -> Result<Vec<Late>, ReadFault> {
     if late_column(alloc, table, query.key, 0)?.is_some() {
-        return Err(ReadFault::Failed);
+        return Err(ReadFault::Failed(Reason::LateKey));
     }
     let mut all = Vec::new(alloc);
     let mut at = 0usize;
@@ -120,6 +124,11 @@ pub fn is_row_number(table: &Table, name: &[u8]) -> bool {
     }
 }
 
+/// Whether a name that is asked of a table is one of a column, or of the number of a row.
+pub fn is_asked(table: &Table, name: &[u8]) -> bool {
+    table.column_named(name).is_some() || ROW_NUMBERS.iter().any(|known| same_name(known, name))
+}
+
 /// A name by which the number of a row is asked: the first that no other column has.
 pub fn row_number(table: &Table) -> Option<&'static [u8]> {
     if is_row_number(table, b"rowid") {
@@ -141,13 +150,13 @@ fn stored(
     number: ValueRef<'_>,
 ) -> Result<Row, ReadFault> {
     let ValueRef::Int(number) = number else {
-        return Err(ReadFault::Failed);
+        return Err(ReadFault::Failed(Reason::NoRowNumber));
     };
     let mut row = Row::new(alloc);
     if store.get(tree, number, &mut row)? {
         Ok(row)
     } else {
-        Err(ReadFault::Failed)
+        Err(ReadFault::Failed(Reason::Damaged))
     }
 }
 
@@ -170,7 +179,7 @@ fn push_value(
                 ..
             },
         ) => filled.push(lend_value(value))?,
-        Some(_) => return Err(ReadFault::Failed),
+        Some(_) => return Err(ReadFault::Failed(Reason::NoDefault)),
     }
     Ok(())
 }

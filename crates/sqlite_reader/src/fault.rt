@@ -1,4 +1,5 @@
-// Why a file or a table isn't read.
+// Why a file or a table isn't read, or that memory ran out.
+use crate::Reason;
 use sqlite_exec::run::QueryError;
 use sqlite_resolve::CompileError;
 use sqlite_store::OpenError;
@@ -11,8 +12,8 @@ use thiserror::Error;
 #[derive(Clone, Copy, Debug, PartialEq, Eq, Error)]
 pub enum ReadFault {
     /// The file can't be read, it isn't one of those that are read, or what is asked isn't in it.
-    #[error("the file is not read")]
-    Failed,
+    #[error("{0}")]
+    Failed(Reason),
     #[error("memory ran out")]
     OutOfMemory,
 }
@@ -33,7 +34,7 @@ impl From<io::Error> for ReadFault {
     fn from(error: io::Error) -> Self {
         match error.kind() {
             io::ErrorKind::OutOfMemory => ReadFault::OutOfMemory,
-            _ => ReadFault::Failed,
+            kind => ReadFault::Failed(Reason::of_system(kind)),
         }
     }
 }
@@ -42,7 +43,7 @@ impl From<OpenError> for ReadFault {
     fn from(error: OpenError) -> Self {
         match error {
             OpenError::OutOfMemory => ReadFault::OutOfMemory,
-            _ => ReadFault::Failed,
+            error => ReadFault::Failed(Reason::of_opening(error)),
         }
     }
 }
@@ -51,7 +52,7 @@ impl From<CompileError> for ReadFault {
     fn from(error: CompileError) -> Self {
         match error {
             CompileError::OutOfMemory => ReadFault::OutOfMemory,
-            _ => ReadFault::Failed,
+            error => ReadFault::Failed(Reason::of_statement(error)),
         }
     }
 }
@@ -60,7 +61,7 @@ impl From<StoreError> for ReadFault {
     fn from(error: StoreError) -> Self {
         match error {
             StoreError::OutOfMemory => ReadFault::OutOfMemory,
-            _ => ReadFault::Failed,
+            error => ReadFault::Failed(Reason::of_pages(error)),
         }
     }
 }
@@ -69,7 +70,7 @@ impl From<QueryError> for ReadFault {
     fn from(error: QueryError) -> Self {
         match error {
             QueryError::Store(error) => error.into(),
-            _ => ReadFault::Failed,
+            error => ReadFault::Failed(Reason::of_run(error)),
         }
     }
 }

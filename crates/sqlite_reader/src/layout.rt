@@ -1,7 +1,7 @@
 // The shape of each tree that a file lists.
 ghost use Rattle.std.specs.Prelude.{◌≡◌, length, IfOk, IfSome};
 
-use crate::ReadFault;
+use crate::{ReadFault, Reason};
 use sqlite_catalog::load;
 use sqlite_schema::names::same_name;
 use sqlite_schema::schema::Schema;
@@ -157,10 +157,10 @@ fn layouts(
     let mut all = Vec::new(alloc);
     'rows: for at in 0..rows.len() {
         let Some(tree) = tree_of(&rows[at]) else {
-            return Err(ReadFault::Failed);
+            return Err(ReadFault::Failed(Reason::OtherKind));
         };
         let Some(found) = layout(schema, tree, shapes[at]) else {
-            return Err(ReadFault::Failed);
+            return Err(ReadFault::Failed(Reason::OtherKind));
         };
         all.push(found)?;
     }
@@ -202,7 +202,7 @@ pub fn lay_out(
     let shapes = shapes_for(alloc, rows, roots)?;
     let coded = with_codes(alloc, rows, shapes.as_slice())?;
     let Some(schema) = load::read(alloc, coded.as_slice())? else {
-        return Err(ReadFault::Failed);
+        return Err(ReadFault::Failed(Reason::OtherKind));
     };
     let kinds = layouts(alloc, &schema, rows, shapes.as_slice())?;
     Ok((schema, kinds))

@@ -1,11 +1,8 @@
 // Which tables a file has, by its schema.
-use crate::defaults::is_row_number;
+use crate::defaults::{ROW_NUMBERS, is_row_number};
 use sqlite_schema::names::same_name;
 use sqlite_schema::schema::{Column, Schema, Table, View};
 use std::alloc::{AllocError, Global};
-
-// The names by which SQLite knows the number of a row.
-const ROW_NUMBERS: [&[u8]; 3] = [b"rowid", b"oid", b"_rowid_"];
 
 /// A column of a table: its name, and whether no row has NULL there.
 #[derive(Drop)]
@@ -81,8 +78,8 @@ fn unread(alloc: Global, name: &[u8]) -> Result<ListedTable, AllocError> {
     })
 }
 
-// Whether something that is kept as it is, is a table.
-fn is_table(kept: &View) -> bool {
+/// Whether something that is kept as it is, is a table.
+pub fn is_table(kept: &View) -> bool {
     match &kept.foreign {
         Some(owner) => same_name(owner.as_slice(), kept.name.as_slice()),
         None => false,

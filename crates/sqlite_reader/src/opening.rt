@@ -1,6 +1,6 @@
 // From files to a store over them, with no page read but those of the schema.
-use crate::ReadFault;
 use crate::layout::{lay_out, without_roots};
+use crate::{ReadFault, Reason};
 use page_disk::PageDisk;
 use sqlite_disk::Files;
 use sqlite_pager::{Options, Pager};
@@ -16,7 +16,7 @@ const CACHE: usize = 1 << 23;
 fn page_size(files: &mut Files<PageDisk>) -> Result<PageSize, ReadFault> {
     match probe_page_size(files)? {
         Some(size) => Ok(size),
-        None => Err(ReadFault::Failed),
+        None => Err(ReadFault::Failed(Reason::NoDatabase)),
     }
 }
 
@@ -41,7 +41,7 @@ fn list(alloc: Global, files: &mut Unopened<PageDisk>) -> Result<Schema, ReadFau
     let (schema, kinds) = lay_out(alloc, rows.as_slice(), roots.as_slice())?;
     match files.list_schema(rows.as_slice(), kinds.as_slice()) {
         Ok(true) => Ok(schema),
-        Ok(false) => Err(ReadFault::Failed),
+        Ok(false) => Err(ReadFault::Failed(Reason::OtherKind)),
         Err(error) => Err(error.into()),
     }
 }

@@ -1,10 +1,11 @@
 // A file that is open for reading, and what is asked of its tables.
+use crate::closer::closer;
 use crate::defaults::{Late, has_late_columns, late_columns, row_number, with_defaults};
 use crate::listing::{ListedTable, tables_of};
 use crate::opening::open_store;
 use crate::query::statement;
 use crate::stamp::{Stamp, open_log, open_plain, real_path, stamp_at};
-use crate::{Query, ReadFault};
+use crate::{Query, ReadFault, Reason};
 use page_disk::PageDisk;
 use sqlite_disk::Files;
 use sqlite_exec::budget::Budget;
@@ -119,7 +120,7 @@ fn run(
     let body = loan.select();
     let rows = match accepts_program(alloc, schema, lets.as_slice(), &body, params) {
         Ok(true) => engine.rows(catalog.as_slice(), lets.as_slice(), &body, params),
-        Ok(false) => Err(ReadFault::Failed),
+        Ok(false) => Err(ReadFault::Failed(Reason::NotAnswered)),
         Err(error) => Err(error.into()),
     };
     // Given to `drop` as in `found`.
@@ -136,11 +137,11 @@ fn answer(
     params: &Row,
 ) -> Result<Vec<Row>, ReadFault> {
     if compiled.names.len() != params.len() || !compiled.formats.is_empty() {
-        return Err(ReadFault::Failed);
+        return Err(ReadFault::Failed(Reason::NotAnswered));
     }
     match &compiled.command {
         Command::Select(program, _) => run(alloc, engine, schema, program, params),
-        _ => Err(ReadFault::Failed),
+        _ => Err(ReadFault::Failed(Reason::NotAnswered)),
     }
 }
 
@@ -185,10 +186,16 @@ impl Reader {
     /// The rows that are asked: each its key and then its columns, after which its number may stand. They are rows of one state of the
     /// file only where the file has not changed since it was opened. After a fault the file is to be opened anew.
     pub fn rows(&mut self, alloc: Global, query: &Query<'_>) -> Result<Vec<Row>, ReadFault> {
-        match self.schema.table_named(query.table) {
+        let answer = match self.schema.table_named(query.table) {
             Some(number) => self.table_rows(alloc, number, query),
-            None if has_late_columns(&self.schema) => Err(ReadFault::Failed),
+            None if has_late_columns(&self.schema) => Err(ReadFault::Failed(Reason::LateView)),
             None => self.found(alloc, query, None),
+        };
+        match answer {
+            Err(ReadFault::Failed(reason)) => {
+                Err(ReadFault::Failed(closer(&self.schema, query, reason)))
+            }
+            answer => answer,
         }
     }
 
@@ -200,7 +207,7 @@ impl Reader {
         query: &Query<'_>,
     ) -> Result<Vec<Row>, ReadFault> {
         let Some(table) = self.schema.tables.get(number) else {
-            return Err(ReadFault::Failed);
+            return Err(ReadFault::Failed(Reason::NoTable));
         };
         let tree = table.tree;
         let late = late_columns(alloc, table, query)?;
@@ -208,7 +215,7 @@ impl Reader {
             return self.found(alloc, query, None);
         }
         let Some(name) = row_number(table) else {
-            return Err(ReadFault::Failed);
+            return Err(ReadFault::Failed(Reason::NoRowNumber));
         };
         let rows = self.found(alloc, query, Some(name))?;
         self.filled(alloc, tree, late.as_slice(), rows)

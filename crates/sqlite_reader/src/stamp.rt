@@ -1,5 +1,5 @@
 // What tells one state of a database's files from another, with no lock held.
-use crate::ReadFault;
+use crate::{ReadFault, Reason};
 use std::alloc::Global;
 use std::fs::{self, File, Metadata};
 use std::io::{self, ErrorKind};
@@ -84,7 +84,7 @@ pub fn real_path(rt: &HostRuntime, path: &str) -> io::Result<PathBuf> {
 pub fn open_plain(rt: &HostRuntime, path: &str) -> Result<File, ReadFault> {
     let data = fs::metadata(rt, path)?;
     if !data.is_file() {
-        return Err(ReadFault::Failed);
+        return Err(ReadFault::Failed(Reason::NotRegular));
     }
     Ok(File::open(rt, path)?)
 }
@@ -94,7 +94,7 @@ pub fn open_log(rt: &HostRuntime, alloc: Global, path: &str) -> Result<Option<Fi
     let name = named(alloc, path, "-wal")?;
     match found_at(rt, name.as_str())? {
         Some(data) if data.is_file() => Ok(Some(File::open(rt, name.as_str())?)),
-        Some(_) => Err(ReadFault::Failed),
+        Some(_) => Err(ReadFault::Failed(Reason::NotRegular)),
         None => Ok(None),
     }
 }
@@ -103,7 +103,7 @@ pub fn open_log(rt: &HostRuntime, alloc: Global, path: &str) -> Result<Option<Fi
 pub fn stamp_at(rt: &HostRuntime, alloc: Global, path: &str) -> Result<Stamp, ReadFault> {
     let journal = named(alloc, path, "-journal")?;
     if has_journal(rt, journal.as_str())? {
-        return Err(ReadFault::Failed);
+        return Err(ReadFault::Failed(Reason::HotJournal));
     }
     let db = stamp_of(&open_plain(rt, path)?, CHANGES)?;
     let log = match open_log(rt, alloc, path)? {

@@ -1,4 +1,5 @@
 // The files that are open, and the rows of one state of a file.
+use crate::reason::{PageReason, RowsFault};
 use mix_catalog::Column;
 use sqlite_reader::{Query, ReadFault, Reader};
 use sqlite_value::row::Row;
@@ -36,10 +37,10 @@ fn take(files: &mut Vec<OpenFile>, path: &[u8]) -> Option<OpenFile> {
 }
 
 // The path of the file that is asked; one that is not UTF-8 is a fault.
-fn path_of<'a>(ask: &PageAsk<'a>) -> Result<&'a str, ReadFault> {
+fn path_of<'a>(ask: &PageAsk<'a>) -> Result<&'a str, RowsFault> {
     match str::from_utf8(ask.file.bytes()) {
         Ok(path) => Ok(path),
-        Err(_) => Err(ReadFault::Failed),
+        Err(_) => Err(RowsFault::Failed(PageReason::Path)),
     }
 }
 
@@ -113,7 +114,7 @@ pub fn found_rows(
     alloc: Global,
     files: &mut Vec<OpenFile>,
     ask: &PageAsk<'_>,
-) -> Result<Vec<Row>, ReadFault> {
+) -> Result<Vec<Row>, RowsFault> {
     let path = path_of(ask)?;
     let mut kept = take(files, path.as_bytes());
     for _ in 0..TRIES {
@@ -124,5 +125,5 @@ pub fn found_rows(
         }
         kept = None;
     }
-    Err(ReadFault::Failed)
+    Err(RowsFault::Failed(PageReason::Changing))
 }

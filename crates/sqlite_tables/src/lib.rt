@@ -3,6 +3,8 @@
 
 mod cells;
 mod files;
+mod misfit;
+mod reason;
 mod schemas;
 mod tables;
 

@@ -88,7 +88,7 @@ fn counted(fault: ReadFault, faults: &mut u64) -> SchemaFault
 {
     match fault {
         ReadFault::OutOfMemory => SchemaFault::OutOfMemory,
-        ReadFault::Failed => {
+        ReadFault::Failed(_) => {
             *faults = faults.saturating_add(1);
             SchemaFault::Failed(UNREAD)
         }

@@ -9,8 +9,10 @@ ghost use Rattle.table_keep.specs.Views.{unasked};
 
 use crate::cells::table_rows;
 use crate::files::{OpenFile, found_rows};
-use sqlite_reader::ReadFault;
-use std::alloc::Global;
+use crate::misfit::misfit;
+use crate::reason::{PageReason, RowsFault};
+use page_reasons::PageReasons;
+use std::alloc::{AllocError, Global};
 use table_keep::{PageAsk, PageFault, TableRow, Tables, is_page};
 
 /// Tables in SQLite files, which are only read. A file is opened when it is first asked, and again where it has changed.
@@ -20,6 +22,8 @@ pub struct SqliteTables {
     pages: u64,
     rows: u64,
     faults: u64,
+    // Why the last page that failed was not given.
+    last: PageReason,
 }
 
 // It is written out, so that a crate above does not prove again how each part is dropped.
@@ -31,6 +35,7 @@ impl Drop for SqliteTables {
             pages: _,
             rows: _,
             faults: _,
+            last: _,
         } = self;
     }
 }
@@ -46,6 +51,7 @@ impl SqliteTables {
             pages: 0,
             rows: 0,
             faults: 0,
+            last: PageReason::NoPage,
         }
     }
 }
@@ -56,7 +62,7 @@ fn read(
     alloc: Global,
     files: &mut Vec<OpenFile>,
     ask: &PageAsk<'_>,
-) -> Result<Vec<TableRow>, ReadFault>
+) -> Result<Vec<TableRow>, RowsFault>
     ensures { IfOk result (λ rows. IsPage ask.now (rows_of rows.items)) }
 {
     let found = found_rows(rt, alloc, files, ask)?;
@@ -64,14 +70,15 @@ fn read(
     if is_page(ask, rows.as_slice()) {
         Ok(rows)
     } else {
-        Err(ReadFault::Failed)
+        Err(RowsFault::Failed(misfit(ask, rows.as_slice())))
     }
 }
 
-// Counts a fault; what is answered goes on as it is, and want of memory is none.
+// Counts a fault and keeps its reason; what is answered goes on as it is, and want of memory is none.
 fn counted(
-    answer: Result<Vec<TableRow>, ReadFault>,
+    answer: Result<Vec<TableRow>, RowsFault>,
     faults: &mut u64,
+    last: &mut PageReason,
 ) -> Result<Vec<TableRow>, PageFault>
     ensures rows { IfOk result (λ rows. answer ≡ Ok rows) }
     ensures kept { faults.old ≤ faults.new }
@@ -79,9 +86,10 @@ fn counted(
 {
     match answer {
         Ok(rows) => Ok(rows),
-        Err(ReadFault::OutOfMemory) => Err(PageFault::OutOfMemory),
-        Err(ReadFault::Failed) => {
+        Err(RowsFault::OutOfMemory) => Err(PageFault::OutOfMemory),
+        Err(RowsFault::Failed(reason)) => {
             *faults = faults.saturating_add(1);
+            *last = reason;
             Err(PageFault::Failed)
         }
     }
@@ -98,7 +106,7 @@ impl Tables for SqliteTables {
         self.pages = self.pages.saturating_add(1);
         self.rows = self.rows.saturating_add(u64::from(ask.limit));
         let answer = read(&self.rt, alloc, &mut self.open, ask);
-        counted(answer, &mut self.faults)
+        counted(answer, &mut self.faults, &mut self.last)
     }
 
     fn pages(&self) -> u64 {
@@ -107,5 +115,11 @@ impl Tables for SqliteTables {
 
     fn rows(&self) -> u64 {
         self.rows
+    }
+}
+
+impl PageReasons for SqliteTables {
+    fn reason(&self, alloc: Global, ask: &PageAsk<'_>) -> Result<String, AllocError> {
+        self.last.text(alloc, ask)
     }
 }

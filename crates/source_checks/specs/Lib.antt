@@ -1,0 +1,4 @@
+pub mod Beside
+pub mod Checks
+pub mod Texts
+pub mod Words
