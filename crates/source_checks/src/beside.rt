@@ -1,5 +1,5 @@
 // What is said beside the refusal of a source's file: of a CSV header that differs both names.
-ghost use Rattle.std.specs.Prelude.{◌≡◌, ◌++◌, IfOk, OnOk, slice_get};
+ghost use Rattle.std.specs.Prelude.{◌≡◌, ◌++◌, ℕ, List, IfOk, OnOk, slice_get};
 ghost use Rattle.mix_io.specs.Views.{FilesView};
 ghost use Rattle.mix_place.specs.Causes.{IsRead};
 ghost use Rattle.source_checks.specs.Beside.{IsBeside, IsBesideCsv};

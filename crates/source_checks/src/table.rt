@@ -34,7 +34,10 @@ pub fn table_lines<T: PageReasons>(
     ensures ok { IfOk result (λ lines. SaysTable (declared_by ask.now) spec.now (T.view tables.old) (T.view tables.new) lines.items) }
 {
     match tables.page(alloc, ask) {
-        Ok(_) => source_line(alloc, spec, PAGE_READ),
+        Ok(rows) => {
+            drop(rows);
+            source_line(alloc, spec, PAGE_READ)
+        }
         Err(PageFault::Failed) => {
             let reason = tables.reason(alloc, ask)?;
             let words = unread_words(alloc, &reason)?;

@@ -35,22 +35,26 @@ fn csv_fault(
 ) -> Result<Option<FileFault>, AllocError>
     ensures { IfOk result (Judges (HoldsRows name.now columns.now) (IsNoCsv columns.now) bytes.now) }
 {
-    match CsvDoc::open(alloc, bytes, name, columns, 1) {
-        Ok(_) => Ok(None),
-        Err(CsvFault::OutOfMemory) => Err(AllocError),
-        Err(fault) => Ok(Some(FileFault::Csv(fault))),
-    }
+    let doc = match CsvDoc::open(alloc, bytes, name, columns, 1) {
+        Ok(doc) => doc,
+        Err(CsvFault::OutOfMemory) => return Err(AllocError),
+        Err(fault) => return Ok(Some(FileFault::Csv(fault))),
+    };
+    drop(doc);
+    Ok(None)
 }
 
 // Why a text is no JSON value, where it is none.
 fn json_fault(alloc: Global, name: &Label, bytes: &[u8]) -> Result<Option<FileFault>, AllocError>
     ensures { IfOk result (Judges (HoldsValue name.now) IsNoJson bytes.now) }
 {
-    match read_json(alloc, name, bytes) {
-        Ok(_) => Ok(None),
-        Err(JsonFault::OutOfMemory) => Err(AllocError),
-        Err(fault) => Ok(Some(FileFault::Json(fault))),
-    }
+    let nodes = match read_json(alloc, name, bytes) {
+        Ok(nodes) => nodes,
+        Err(JsonFault::OutOfMemory) => return Err(AllocError),
+        Err(fault) => return Ok(Some(FileFault::Json(fault))),
+    };
+    drop(nodes);
+    Ok(None)
 }
 
 /// Why a text is not what the file of a source is to have, where it isn't. `Err`: memory.
