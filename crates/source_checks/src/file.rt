@@ -44,7 +44,7 @@ fn text_lines(alloc: Global, spec: &SourceSpec, bytes: &[u8]) -> Result<Vec<u8>,
 {
     match fault_of(alloc, spec, bytes)? {
         None => {
-            let words = size_words(alloc, spec, bytes.len())?;
+            let words = size_words(alloc, path_of(spec.kind.file()), bytes.len())?;
             source_line(alloc, spec, words.as_bytes())
         }
         Some(fault) => {

@@ -1,6 +1,5 @@
 // The lines that are written.
 ghost use Rattle.std.specs.Prelude.{◌≡◌, ◌++◌, IfOk, string_bytes};
-ghost use Rattle.mix_catalog.specs.Grammar.{file_of};
 ghost use Rattle.source_checks.specs.Words.{line_of, size_words};
 
 use mix_catalog::SourceSpec;
@@ -29,10 +28,9 @@ pub fn source_line(alloc: Global, spec: &SourceSpec, words: &[u8]) -> Result<Vec
     Ok(line)
 }
 
-/// The words that say how many bytes the file of a source has.
-pub fn size_words(alloc: Global, spec: &SourceSpec, count: usize) -> Result<String, AllocError>
-    ensures { IfOk result (λ words. string_bytes words ≡ size_words (file_of spec.now.kind) count) }
+/// The words that say how many bytes the file of a path has.
+pub fn size_words(alloc: Global, path: &str, count: usize) -> Result<String, AllocError>
+    ensures { IfOk result (λ words. string_bytes words ≡ size_words path.now count) }
 {
-    let path = path_of(spec.kind.file());
     format!(in alloc; "{path} has {count} bytes\n")
 }

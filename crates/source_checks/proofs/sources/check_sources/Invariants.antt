@@ -10,11 +10,11 @@ use Rattle.source_checks.proofs.sources.check_sources.Given as goal
 abbrev pub invariant-loop-s : goal.invariant-loop-s
 invariant-loop-s g l =
     let view = g.F.Files.view in
-    let tables = g.T.Tables.view in
+    let table_view = g.T.Tables.view in
     let chosen = reads_source (plan_value l.plan).ops in
     record {
       files : KeepsFiles (view l.initial.files) (view l.files);
-      tables : KeepsTables (tables l.initial.tables) (tables l.tables);
+      tables : KeepsTables (table_view l.initial.tables) (table_view l.tables);
       reads : ReadsAmong (IsFileBefore chosen l.catalog l.s) (view l.initial.files) (view l.files);
-      says : SaysSources chosen l.catalog l.s (moment (view l.initial.files) (tables l.initial.tables)) (moment (view l.files) (tables l.tables)) l.lines.items;
+      says : SaysSources chosen l.catalog l.s (moment (view l.initial.files) (table_view l.initial.tables)) (moment (view l.files) (table_view l.tables)) l.lines.items;
     }
