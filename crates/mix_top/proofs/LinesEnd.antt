@@ -52,8 +52,8 @@ module _ (C D : ℕ → List ℕ → Type 0) (before after : SinkView) (w : (sta
   -- lines that end in one course end in any course that has its lines
   pub heard_weaker : (r : Result Bool LinesFault) → EndsAsHeard C before after r → EndsAsHeard D before after r
   heard_weaker (Ok marked) h = (h.0, w _ h.0 h.1, h.2)
-  heard_weaker (Err lines_fault.InputFailed) h = (h.0, h.1.0, w h.0 h.1.0 h.1.1, h.1.2)
-  heard_weaker (Err lines_fault.SinkFailed) h = (h.0, h.1.0, h.1.1, w h.1.0 h.1.1 h.1.2, h.1.3)
+  heard_weaker (Err lines_fault.InputFailed) h = (h.0, (h.1.0, w h.0 h.1.0 h.1.1, h.1.2))
+  heard_weaker (Err lines_fault.SinkFailed) h = (h.0, (h.1.0, h.1.1, w h.1.0 h.1.1 h.1.2, h.1.3))
   heard_weaker (Err lines_fault.OutOfMemory) h = (h.0, h.1, w h.0 h.1 h.2, h.3)
 
 -- lines that need no input end as the run does
@@ -114,8 +114,9 @@ module _ (heard : List Heard) (old new : View) (a b : Reaching) (st : BenchState
       let lines = spoken names w.done w.answers in
       let line = spoken names (w.next ∷ []) w.last in
       let later = spoken names w.later [] in
-      let begin = record { done = w.done; later = w.next ∷ w.later; parts = w.parts; all = w.all; rest = take w.count line; are = refl } in
-      let less = run.frugal w.answers w.last (lines ++ take w.count line) w.cost begin w.written in
+      let less =
+      run.frugal w.answers w.last (lines ++ take w.count line) w.cost
+      (record { done = w.done; later = w.next ∷ w.later; parts = w.parts; all = w.all; rest = take w.count line; are = refl }) w.written in
       let next : spoken names (w.next ∷ w.later) w.last ≡ line ++ later =
       ap (spoken names (w.next ∷ w.later)) (sym (append_nil w.last)) ∙ spoken_append names (w.next ∷ []) w.later w.last [] w.one in
       took (w.answers ++ w.last) w.are less (lines ++ line) later

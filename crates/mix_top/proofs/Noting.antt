@@ -17,7 +17,7 @@ use Rattle.mix_script.specs.declared.answer.Answer.TheVariants as answer
 use Rattle.mix_script.specs.declared.step.Act.{Act}
 use Rattle.mix_script.specs.declared.step.Act.TheVariants.{Root, Move, Select, Fetch, Print, Id, At}
 use Rattle.mix_script.specs.declared.step.Step.{Step}
-use Rattle.mix_lines.specs.Heard.{Heard, no_form, step, steps_in}
+use Rattle.mix_lines.specs.Heard.{Heard, no_form, step as asked, steps_in}
 use Rattle.mix_lines.specs.Lines.{heard_transcript, no_form_line, spoken, spoken_from}
 use Rattle.mix_top.specs.Answered.{IsNoFault}
 
@@ -209,8 +209,8 @@ module _ (NamesAt : Naming) (f : Finished) (sources : List (List ℕ)) (more : L
   lines_begin_from names (no_form ∷ heard) answers of =
       let later = lines_begin_from names heard answers of in
       (later.0, append_assoc no_form_line (spoken sources heard answers) later.0 ∙ ap (λ r. no_form_line ++ r) later.1)
-  lines_begin_from names (step s ∷ heard) [] of = (spoken_from f sources names more (step s ∷ heard), refl)
-  lines_begin_from names (step s ∷ heard) (a ∷ answers) of =
+  lines_begin_from names (asked s ∷ heard) [] of = (spoken_from f sources names more (asked s ∷ heard), refl)
+  lines_begin_from names (asked s ∷ heard) (a ∷ answers) of =
       let later = lines_begin_from (answered f names (note_of a) s).1 heard answers of.2 in (
         later.0,
         append_assoc (line_of sources s.client a) (spoken sources heard answers) later.0
@@ -228,8 +228,8 @@ module _ (NamesAt : Naming) (f : Finished) (sources : List (List ℕ)) (more : L
       → spoken sources heard answers ≡ spoken_from f sources names (notes_of answers ++ more) heard
   lines_all_from names [] answers of all = refl
   lines_all_from names (no_form ∷ heard) answers of all = ap (λ r. no_form_line ++ r) (lines_all_from names heard answers of all)
-  lines_all_from names (step s ∷ heard) [] of all = absurd (omega (arith, all))
-  lines_all_from names (step s ∷ heard) (a ∷ answers) of all =
+  lines_all_from names (asked s ∷ heard) [] of all = absurd (omega (arith, all))
+  lines_all_from names (asked s ∷ heard) (a ∷ answers) of all =
       ap (λ r. line_of sources s.client a ++ r) (lines_all_from (answered f names (note_of a) s).1 heard answers of.2 (omega (arith, all)))
       ∙ ap (λ x. line_of sources s.client x ++ spoken_from f sources (answered f names (note_of a) s).1 (notes_of answers ++ more) heard) of.0
 

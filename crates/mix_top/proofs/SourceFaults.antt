@@ -6,7 +6,7 @@ use Rattle.mix_catalog.specs.Sources.{base_of}
 use Rattle.mix_mount.specs.declared.mount.Mount.{Mount}
 use Rattle.mix_mount.specs.Mounts.{faults, mount_at, view_of as mount_view}
 use Rattle.mix_mount.proofs.Laws.{in_memory_unfailed, table_failed}
-use Rattle.mix_reach.specs.Reach.{CameFrom, Reaching, faults_at, site_at, view_of}
+use Rattle.mix_reach.specs.Reach.{CameFrom, Reaching, document_at as source_at, site_at, view_of}
 use Rattle.mix_reach.specs.Stores.{stores_of}
 use Rattle.mix_reach.specs.declared.site.Site.{Site}
 use Rattle.mix_reach.specs.declared.site.Site.TheVariants.{Here, Far}
@@ -24,11 +24,11 @@ use Rattle.mix_top.proofs.Mounts.{site_is, table_mounted}
 module _ (files : FilesView) (a b : Reaching) (came : CameFrom a b) (ops : List Operator) (sources : List SourceSpec) (views : List (Option Plan)) (place : ArePlaced files ops sources (placed_of a views)) where
   -- before and after, a source that is needed failed as often as what stands where its kind says
   failed_at : (s : ℕ) (spec : SourceSpec) → slice_get (base_of sources) s ≡ Some spec → needs ops (lower_of views) s ≡ true → (site : Site) → site_by (far_in spec.kind) ≡ site
-      → ((view_of a).faults s ≡ faults_at (mount_view a.mounted) a.fars s site) × ((view_of b).faults s ≡ faults_at (mount_view b.mounted) b.fars s site)
+      → ((view_of a).faults s ≡ (source_at (mount_view a.mounted) a.fars s site).faults) × ((view_of b).faults s ≡ (source_at (mount_view b.mounted) b.fars s site).faults)
   failed_at s spec at read site is =
       let here = site_is files ops sources (placed_of a views) place s spec at read ∙ is in (
-        ap (λ (x : Site). faults_at (mount_view a.mounted) a.fars s x) here,
-        ap (λ (x : Site). faults_at (mount_view b.mounted) b.fars s x) (ap (λ (sites : List Site). site_at sites s) came.sites ∙ here),
+        ap (λ (x : Site). (source_at (mount_view a.mounted) a.fars s x).faults) here,
+        ap (λ (x : Site). (source_at (mount_view b.mounted) b.fars s x).faults) (ap (λ (sites : List Site). site_at sites s) came.sites ∙ here),
       )
 
   -- a mount failed after as often as the same mount that was there before
