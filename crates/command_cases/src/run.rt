@@ -35,16 +35,12 @@ fn call(
     alloc: Global,
     words: &[String],
     files: &mut MemFiles,
-    mut stores: Stores<MemTables, MemFars>,
+    stores: Stores<MemTables, MemFars>,
     streams: &mut Streams<MemInput, MemSink>,
 ) -> (u8, Stores<MemTables, MemFars>) {
     match words {
         [word, ..] if word.as_str() == "explain" => {
-            let tables = &mut stores.tables;
-            (
-                mixq_explain(alloc, words, files, tables, &mut streams.out),
-                stores,
-            )
+            (mixq_explain(alloc, words, files, &mut streams.out), stores)
         }
         [word, ..] if word.as_str() == "serve" => {
             mixq_serve_over(alloc, words, files, stores, streams)

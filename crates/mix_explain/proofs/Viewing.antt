@@ -1,7 +1,6 @@
 -- What comes of a view after its catalog was accepted.
-use Rattle.std.proofs.Common.{◌≡◌, ℕ, List, IfSome, Option, arith, inl, inr, refl, subst}
-use Rattle.mix_io.specs.Views.{FilesView, KeepsFiles, ReadsOnly}
-use Rattle.mix_io.proofs.Keeps.{keeps_files_twice}
+use Rattle.std.proofs.Common.{◌≡◌, ℕ, List, IfSome, Option, inl, inr, subst}
+use Rattle.mix_io.specs.Views.{FilesView, KeepsFiles}
 use Rattle.mix_catalog.specs.declared.source.SourceSpec.{SourceSpec}
 use Rattle.xmas_read.specs.Results.{names_of_sources}
 use Rattle.xmas_rule.specs.Rules.{RuleValue}
@@ -11,12 +10,7 @@ use Rattle.mix_place.specs.Causes.{IsNoRule, IsRead}
 use Rattle.mix_place.specs.Files.{IsCatalogFile, IsRuleFile}
 use Rattle.mix_place.proofs.LoadLaws.{cause_before}
 use Rattle.mix_explain.specs.Answers.{IsSteady}
-use Rattle.mix_place.proofs.ReadingLaws.{reads_one, reads_twice, reads_wider}
-use Rattle.mix_place.specs.Reading.{ReadsAmong}
-use Rattle.source_checks.specs.Checks.{Moment, moment}
-use Rattle.table_keep.specs.Views.{KeepsTables, TablesView}
 use Rattle.mix_explain.specs.Explained.{Explains, ExplainsRefusal, IsSaid, ReportsRule}
-use Rattle.mix_explain.specs.Words.{IsReportedFile, ReportMayRead}
 
 -- what was read of a file later was there before
 read_before : (old mid : FilesView) (path text : List ℕ) → mid.told path ≡ old.told path → IsRead mid path text → IsRead old path text
@@ -55,57 +49,16 @@ explains_before IsNone names old mid new path status lines keeps steady h =
 
 -- after an accepted catalog, a view that is refused is explained
 pub view_refused :
-    (old : Moment) (mid : FilesView) (new : Moment) (view catalog : List ℕ) (sources : List SourceSpec) (status : ℕ) (lines : List ℕ)
-    → KeepsFiles old.files mid → IsSteady old.files mid → IsCatalogFile old.files catalog sources
-    → (let names = names_of_sources sources in ExplainsRefusal (IsNoRule names) names mid new.files view status lines)
+    (old mid new : FilesView) (view catalog : List ℕ) (sources : List SourceSpec) (status : ℕ) (lines : List ℕ) → KeepsFiles old mid → IsSteady old mid
+    → IsCatalogFile old catalog sources → (let names = names_of_sources sources in ExplainsRefusal (IsNoRule names) names mid new view status lines)
     → Explains old new view catalog status lines
 view_refused old mid new view catalog sources status lines keeps steady accepted h =
-    let names = names_of_sources sources in
-    inr (sources, accepted, inl (explains_before (IsNoRule names) names old.files mid new.files view status lines keeps steady h))
+    let names = names_of_sources sources in inr (sources, accepted, inl (explains_before (IsNoRule names) names old mid new view status lines keeps steady h))
 
--- a rule that a file spells at a later moment it spelled before
-pub rule_before : (old mid : FilesView) (view : List ℕ) (names : List (List ℕ)) (rule : RuleValue) → KeepsFiles old mid → IsRuleFile mid view names rule
-    → IsRuleFile old view names rule
-rule_before old mid view names rule keeps h = record { text = h.text; read = read_before old mid view h.text (keeps.told view) h.read; spelled = h.spelled }
-
--- tables of which no page is asked keep everything
-tables_same : (tables : TablesView) → KeepsTables tables tables
-tables_same tables = record { told = λ d. refl; pages = omega arith; rows = omega arith; faults = λ d. omega arith }
-
--- after an accepted catalog, a view that is accepted is reported, and its sources after it
+-- after an accepted catalog, a view that is accepted is reported
 pub view_accepted :
-    (old mid late : FilesView) (tables : TablesView) (new : Moment) (view catalog : List ℕ) (sources : List SourceSpec) (rule : RuleValue) (status : ℕ)
-    (lines : List ℕ) → KeepsFiles old mid → KeepsFiles mid late → IsCatalogFile old catalog sources → IsRuleFile mid view (names_of_sources sources) rule
-    → status ≡ 0 → ReportsRule sources rule (moment late tables) new lines → Explains (moment old tables) new view catalog status lines
-view_accepted old mid late tables new view catalog sources rule status lines keeps after accepted h zero reports =
-    inr (
-      sources,
-      accepted,
-      inr (
-        rule,
-        rule_before old mid view (names_of_sources sources) rule keeps h,
-        zero,
-        moment late tables,
-        record { files = keeps_files_twice old mid late keeps after; tables = tables_same tables },
-        reports,
-      ),
-    )
-
--- where the catalog and the view were read, no more was read than an explanation may
-pub reads_files :
-    (old mid late : FilesView) (view catalog : List ℕ) (sources : List SourceSpec) → IsCatalogFile old catalog sources → ReadsOnly catalog old mid
-    → ReadsOnly view mid late → ReadsAmong (ReportMayRead old view catalog) old late
-reads_files old mid late view catalog sources accepted first second =
-    let May : List ℕ → Type 0 = ReportMayRead old view catalog in
-    reads_twice May old mid late (reads_one May catalog old mid (inl (inl refl)) first) (reads_one May view mid late (inl (inr (refl, sources, accepted))) second)
-
--- where after both the files of the sources were read, no more was read than an explanation may
-pub reads_all :
-    (old mid late new : FilesView) (view catalog : List ℕ) (sources : List SourceSpec) (rule : RuleValue) → KeepsFiles old mid → IsCatalogFile old catalog sources
-    → IsRuleFile mid view (names_of_sources sources) rule → ReadsOnly catalog old mid → ReadsOnly view mid late
-    → ReadsAmong (IsReportedFile sources rule) late new → ReadsAmong (ReportMayRead old view catalog) old new
-reads_all old mid late new view catalog sources rule keeps accepted h first second third =
-    let May : List ℕ → Type 0 = ReportMayRead old view catalog in
-    reads_twice May old late new (reads_files old mid late view catalog sources accepted first second)
-    (reads_wider (IsReportedFile sources rule) May late new
-    (λ path is. inr (sources, accepted, (rule, rule_before old mid view (names_of_sources sources) rule keeps h, is))) third)
+    (old mid new : FilesView) (view catalog : List ℕ) (sources : List SourceSpec) (rule : RuleValue) (status : ℕ) (lines : List ℕ) → KeepsFiles old mid
+    → IsCatalogFile old catalog sources → IsRuleFile mid view (names_of_sources sources) rule → status ≡ 0 → ReportsRule sources rule lines
+    → Explains old new view catalog status lines
+view_accepted old mid new view catalog sources rule status lines keeps accepted h zero reports =
+    inr (sources, accepted, inr (rule, record { text = h.text; read = read_before old mid view h.text (keeps.told view) h.read; spelled = h.spelled }, zero, reports))

@@ -13,8 +13,6 @@ use Rattle.plan_rewrite.specs.Rewritten.{plan_for}
 use Rattle.refusal_words.specs.Catalog.{ExplainsAt, IsFaultPlace}
 use Rattle.refusal_words.specs.View.{ExplainsView}
 use Rattle.view_report.specs.Report.{Reports}
-use Rattle.view_class.specs.Reads.{reads_source}
-use Rattle.source_checks.specs.Checks.{Keeps, Moment, SaysToday}
 use Rattle.mix_place.specs.declared.refusal.FileFault.{FileFault}
 use Rattle.mix_place.specs.declared.refusal.FileFault.TheVariants.{Unread, TooLong, Document, Csv, Json, Catalog, Script, View, Plan as PlanText}
 use Rattle.mix_place.specs.Causes.{IsNoCatalog, IsNoRule, IsRead, IsRefusalLine, status_of}
@@ -52,25 +50,19 @@ pub record ExplainsRefusal (IsNone : List ℕ → FileFault → Type 0) (names :
   pub said : IsSaid names old path refused.fault words
   pub lines_are : lines ≡ line ++ words
 
--- lines report the plan of a rule over the sources of a catalog, and after that say what those of them that it reads are between two moments
-pub record ReportsRule (sources : List SourceSpec) (rule : RuleValue) (old new : Moment) (lines : List ℕ) : Type 0 where
-  pub plan : Plan
-  pub plan_is : plan_value plan ≡ plan_for (names_of_sources sources) rule
-  pub report : List ℕ
-  pub reports : Reports sources plan report
-  pub today : List ℕ
-  pub says : SaysToday (reads_source (plan_value plan).ops) sources old new today
-  pub lines_are : lines ≡ report ++ today
+-- lines report the plan of a rule over the sources of a catalog
+abbrev pub ReportsRule : List SourceSpec → RuleValue → List ℕ → Type 0
+ReportsRule sources rule lines = (plan : Plan) × (plan_value plan ≡ plan_for (names_of_sources sources) rule) × Reports sources plan lines
 
--- what explaining a view over the sources of a catalog comes to: its refusal is explained, or its plan is reported, and after its file was read, its sources
-abbrev pub ExplainsViewFile : Moment → Moment → List ℕ → List SourceSpec → ℕ → List ℕ → Type 0
+-- what explaining a view over the sources of a catalog comes to: its refusal is explained, or its plan is reported
+abbrev pub ExplainsViewFile : FilesView → FilesView → List ℕ → List SourceSpec → ℕ → List ℕ → Type 0
 ExplainsViewFile old new view sources status lines =
     let names = names_of_sources sources in
-    ExplainsRefusal (IsNoRule names) names old.files new.files view status lines
-    ⊎ ((rule : RuleValue) × IsRuleFile old.files view names rule × (status ≡ 0) × (mid : Moment) × Keeps old mid × ReportsRule sources rule mid new lines)
+    ExplainsRefusal (IsNoRule names) names old new view status lines
+    ⊎ ((rule : RuleValue) × IsRuleFile old view names rule × (status ≡ 0) × ReportsRule sources rule lines)
 
 -- what `explain` comes to: the refusal of the catalog is explained, or, over its sources, the view
-abbrev pub Explains : Moment → Moment → List ℕ → List ℕ → ℕ → List ℕ → Type 0
+abbrev pub Explains : FilesView → FilesView → List ℕ → List ℕ → ℕ → List ℕ → Type 0
 Explains old new view catalog status lines =
-    ExplainsRefusal IsNoCatalog [] old.files new.files catalog status lines
-    ⊎ ((sources : List SourceSpec) × IsCatalogFile old.files catalog sources × ExplainsViewFile old new view sources status lines)
+    ExplainsRefusal IsNoCatalog [] old new catalog status lines
+    ⊎ ((sources : List SourceSpec) × IsCatalogFile old catalog sources × ExplainsViewFile old new view sources status lines)

@@ -1,4 +1,4 @@
-//! The command `explain`: why a view or its catalog is refused, or what the view comes to and its sources are, in words.
+//! The command `explain`: why a view or its catalog is refused, or what the view comes to, in words.
 #![tactic(auto)]
 
 mod call;

@@ -1,23 +1,19 @@
 // What an explanation of a view over a catalog comes to.
 ghost use Rattle.std.specs.Prelude.{◌≡◌, IfOk, length};
-ghost use Rattle.mix_io.specs.Views.{KeepsFiles};
-ghost use Rattle.table_keep.specs.Views.{KeepsTables};
+ghost use Rattle.mix_io.specs.Views.{FilesView, KeepsFiles};
 ghost use Rattle.xmas_read.specs.Results.{names_of_sources};
 ghost use Rattle.xmas_rule.specs.RuleMade.{rule_of};
 ghost use Rattle.xmas_rule.specs.Rules.{IsAccepted};
+ghost use Rattle.mix_top.specs.FilesRead.{FileMayRead};
 ghost use Rattle.mix_place.specs.Reading.{ReadsAmong};
-ghost use Rattle.source_checks.specs.Checks.{moment};
 ghost use Rattle.mix_explain.specs.Explained.{Explains, ReportsRule};
-ghost use Rattle.mix_explain.specs.Words.{IsReportedFile, ReportMayRead};
 
 use crate::explained::{Answer, Explained};
 use crate::reading::{read_catalog_file, read_view_file};
 use mix_catalog::Catalog;
 use mix_io::Files;
 use mix_place::source_names;
-use page_reasons::PageReasons;
 use plan_rewrite::plan_view;
-use source_checks::check_sources;
 use std::alloc::{AllocError, Global};
 use view_report::view_report;
 use xmas_rule::Rule;
@@ -29,49 +25,34 @@ pub struct Explaining<'a> {
     pub catalog: &'a str,
 }
 
-// What an accepted rule comes to, and what its sources are. `Err`: memory.
-fn report<F: Files, T: PageReasons>(
-    alloc: Global,
-    catalog: &Catalog,
-    rule: &Rule,
-    files: &mut F,
-    tables: &mut T,
-) -> Result<Explained, AllocError>
+// What an accepted rule comes to. `Err`: memory.
+fn report(alloc: Global, catalog: &Catalog, rule: &Rule) -> Result<Explained, AllocError>
     requires { IsAccepted (length (names_of_sources catalog.now)) (rule_of rule.now) }
-    ensures files { KeepsFiles (F.view files.old) (F.view files.new) }
-    ensures tables { KeepsTables (T.view tables.old) (T.view tables.new) }
-    ensures reads { ReadsAmong (IsReportedFile catalog.now (rule_of rule.now)) (F.view files.old) (F.view files.new) }
     ensures status { IfOk result (λ e. e.status ≡ 0) }
-    ensures lines { IfOk result (λ e. ReportsRule catalog.now (rule_of rule.now) (moment (F.view files.old) (T.view tables.old))
-        (moment (F.view files.new) (T.view tables.new)) e.lines.items) }
+    ensures lines { IfOk result (λ e. ReportsRule catalog.now (rule_of rule.now) e.lines.items) }
 {
     let names = source_names(alloc, catalog)?;
     let plan = plan_view(alloc, rule, &names)?;
-    let mut lines = view_report(alloc, catalog, &plan)?;
-    let today = check_sources(alloc, files, tables, catalog, &plan)?;
-    lines.extend_from_slice(&today)?;
+    let lines = view_report(alloc, catalog, &plan)?;
     Ok(Explained { status: 0, lines })
 }
 
 /// The explanation of a view over a catalog, which is read and accepted first. `Err`: memory.
-pub fn explained<F: Files, T: PageReasons>(
+pub fn explained<F: Files>(
     alloc: Global,
     asked: &Explaining<'_>,
     files: &mut F,
-    tables: &mut T,
 ) -> Result<Explained, AllocError>
     ensures keeps { KeepsFiles (F.view files.old) (F.view files.new) }
-    ensures tables { KeepsTables (T.view tables.old) (T.view tables.new) }
-    ensures reads { let old = F.view files.old in ReadsAmong (ReportMayRead old asked.now.view.now asked.now.catalog.now) old (F.view files.new) }
-    ensures ok { IfOk result (λ e. Explains (moment (F.view files.old) (T.view tables.old)) (moment (F.view files.new) (T.view tables.new))
-        asked.now.view.now asked.now.catalog.now e.status e.lines.items) }
+    ensures reads { let old = F.view files.old in ReadsAmong (FileMayRead old asked.now.view.now asked.now.catalog.now) old (F.view files.new) }
+    ensures ok { IfOk result (λ e. Explains (F.view files.old) (F.view files.new) asked.now.view.now asked.now.catalog.now e.status e.lines.items) }
 {
     let catalog = match read_catalog_file(alloc, files, asked.catalog)? {
         Answer::Accepted(catalog) => catalog,
         Answer::Refused(explained) => return Ok(explained),
     };
     match read_view_file(alloc, files, asked.view, &catalog)? {
-        Answer::Accepted(rule) => report(alloc, &catalog, &rule, files, tables),
+        Answer::Accepted(rule) => Ok(report(alloc, &catalog, &rule)?),
         Answer::Refused(explained) => Ok(explained),
     }
 }

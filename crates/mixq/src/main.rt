@@ -30,16 +30,12 @@ fn answer(
     alloc: Global,
     words: &[String],
     files: &mut OsFiles,
-    mut stores: Stores<SqliteTables, FarLinks<FileLink, FileDial>>,
+    stores: Stores<SqliteTables, FarLinks<FileLink, FileDial>>,
     streams: &mut Streams<StdInput, StdSink>,
 ) -> u8 {
     let (status, _) = match words {
         [word, ..] if word.as_str() == "explain" => {
-            let tables = &mut stores.tables;
-            (
-                mixq_explain(alloc, words, files, tables, &mut streams.out),
-                stores,
-            )
+            (mixq_explain(alloc, words, files, &mut streams.out), stores)
         }
         [word, ..] if word.as_str() == "serve" => {
             mixq_serve_over(alloc, words, files, stores, streams)

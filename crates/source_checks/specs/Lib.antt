@@ -1,4 +1,0 @@
-pub mod Beside
-pub mod Checks
-pub mod Texts
-pub mod Words
