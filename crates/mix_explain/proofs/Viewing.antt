@@ -1,5 +1,5 @@
 -- What comes of a view after its catalog was accepted.
-use Rattle.std.proofs.Common.{◌≡◌, ℕ, List, IfSome, Option, arith, inl, inr, refl, subst}
+use Rattle.std.proofs.Common.{◌≡◌, ℕ, List, IfOk, IfSome, Option, Result, Ok, Err, arith, inl, inr, refl, subst}
 use Rattle.mix_io.specs.Views.{FilesView, KeepsFiles, ReadsOnly}
 use Rattle.mix_io.proofs.Keeps.{keeps_files_twice}
 use Rattle.mix_catalog.specs.declared.source.SourceSpec.{SourceSpec}
@@ -109,3 +109,8 @@ reads_all old mid late new view catalog sources rule keeps accepted h first seco
     reads_twice May old late new (reads_files old mid late view catalog sources accepted first second)
     (reads_wider (IsReportedFile sources rule) May late new
     (λ path is. inr (sources, accepted, (rule, rule_before old mid view (names_of_sources sources) rule keeps h, is))) third)
+
+-- what two clauses together say of an answer holds where both do
+pub ok_by_both : {T E : Type 0} (r : Result T E) (P Q R : T → Type 0) → ((x : T) → P x → Q x → R x) → IfOk r P → IfOk r Q → IfOk r R
+ok_by_both (Ok x) P Q R both p q = both x p q
+ok_by_both (Err e) P Q R both p q = tt

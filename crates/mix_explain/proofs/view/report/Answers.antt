@@ -1,7 +1,5 @@
-use Rattle.std.proofs.Common.{◌≡◌, ◌∙◌, ℕ, List, ap}
-use Rattle.plan_core.specs.PlanMade.{plan_value}
+use Rattle.std.proofs.Common.{◌∙◌, ◌++◌, ℕ, List, ap}
 use Rattle.plan_rewrite.specs.Rewritten.{plan_for}
-use Rattle.xmas_read.specs.Results.{names_of_sources}
 use Rattle.xmas_rule.specs.RuleMade.{rule_of}
 use Rattle.mix_explain.proofs.view.report.Goals as goal
 
