@@ -3,11 +3,12 @@ use Rattle.std.proofs.Common.{◌≡◌, ◌∙◌, ℕ, ◌+◌, ◌<◌, ◌�
 use Rattle.std.specs.List.{AllByRecursion}
 use Rattle.std.proofs.lemmas.List.{map-append}
 use Rattle.mix_tree.specs.Forest.{Forest, none, tree, followed, LabelledTree, forest_of}
+use Rattle.mix_tree.specs.Weight.{nodes_of}
 use Rattle.mix_tree.proofs.Forests.{followed-none, forest_of-append}
 use Rattle.lxp_core.specs.declared.open_tree.HoleId.{HoleId}
-use Rattle.lxp_core.specs.Open.{Open, nil, node, hole, closed, AllHoles, IsApart, IsProgress, is_nil, has_node, begins_with_hole, open_followed, without_holes}
+use Rattle.lxp_core.specs.Open.{Open, nil, node, hole, closed, weight_of, AllHoles, IsApart, IsProgress, is_nil, has_node, begins_with_hole, open_followed, without_holes}
 use Rattle.lxp_core.specs.Small.{IsSmall, IsSmallWithin, tops_of}
-use Rattle.lxp_core.proofs.Opens.{closed-open_followed, closed-without_holes, AllHoles-open_followed, AllHoles-without_holes, IsApart-without_holes}
+use Rattle.lxp_core.proofs.Opens.{closed-open_followed, closed-without_holes, weight_of-open_followed, AllHoles-open_followed, AllHoles-without_holes, IsApart-without_holes}
 use Rattle.row_document.specs.Rows.{name_given, rest_given, row_forest, row_tree, rows_given}
 
 -- what holds of the hole behind rows, and of no hole, holds of what is given for the rows that are left
@@ -73,6 +74,11 @@ name_closes forest name all = ap (λ f. tree name f none) (followed-none (forest
 pub name_small : (name : List ℕ) (all : HoleId) → length name < 2 ^ 32 → IsSmall (name_given name all)
 name_small name all h = (omega arith, (h, omega arith, tt, tt))
 
+-- a list without holes weighs as many nodes as it has
+without_light : (weight : HoleId → ℕ) (f : Forest) → weight_of weight (without_holes f) ≡ nodes_of f
+without_light weight none = refl
+without_light weight (tree label kids rest) = omega (arith, without_light weight kids, without_light weight rest)
+
 module _ {R : Type 0} (cells : R → List LabelledTree) (rows : List R) (more : Bool) (rest : HoleId) where
   -- the list of some rows closes to their trees, followed by those of what is left
   pub rows_close : (forest : HoleId → Forest) → closed forest (rows_given cells rows more rest) ≡ followed (row_forest cells rows) (closed forest (rest_given more rest))
@@ -85,6 +91,10 @@ module _ {R : Type 0} (cells : R → List LabelledTree) (rows : List R) (more : 
   rows_known knows h =
       AllHoles-open_followed knows (without_holes (row_forest cells rows)) (rest_given more rest) (AllHoles-without_holes knows (row_forest cells rows))
       (rest_by (AllHoles knows) more rest (λ k. (h k, tt)) (λ k. tt))
+
+  -- the list of some rows weighs as many nodes as these have, and what is left
+  pub rows_weigh : (weight : HoleId → ℕ) → weight_of weight (rows_given cells rows more rest) ≡ nodes_of (row_forest cells rows) + weight_of weight (rest_given more rest)
+  rows_weigh weight = omega (arith, weight_of-open_followed weight (without_holes (row_forest cells rows)) (rest_given more rest), without_light weight (row_forest cells rows))
 
   -- a list of rows with small cells, not too many of them, is small enough for a wire
   pub rows_small : AllByRecursion (λ r. AreSmallCells (cells r)) rows → length rows + 1 < 2 ^ 32 → IsSmall (rows_given cells rows more rest)

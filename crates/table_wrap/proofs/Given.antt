@@ -1,20 +1,21 @@
 -- The lists that holes are answered with keep what a source promises.
-use Rattle.std.proofs.Common.{◌≡◌, ◌∙◌, ℕ, zero, suc, ◌+◌, ◌*◌, ◌^◌, ◌<◌, ◌≤◌, ◌==◌, Bool, true, false, cond, ℤ, pos, negsuc, List, [], ◌∷◌, ◌++◌, length, take, drop, map, Option, Some, None, IfSome, is_some, unwrap_or, SFits, w64, refl, ap, sym, subst, arith, int_lt}
+use Rattle.std.proofs.Common.{◌≡◌, ◌∙◌, ℕ, zero, suc, ◌+◌, ◌*◌, ◌^◌, ◌<◌, ◌≤◌, ◌==◌, Bool, true, false, cond, ℤ, pos, negsuc, List, [], ◌∷◌, ◌++◌, length, take, drop, Option, Some, None, IfSome, is_some, unwrap_or, SFits, w64, refl, ap, sym, subst, arith, int_lt}
 use Rattle.std.specs.List.{AllByRecursion, filter}
 use Rattle.std.proofs.lemmas.Bool.Decides.{nat_tests}
 use Rattle.std.proofs.lemmas.Int.{ints, to_z-of_z}
-use Rattle.std.proofs.lemmas.List.{length-take, map-append, take-append-drop, take_all}
+use Rattle.std.proofs.lemmas.List.{length-take, take-append-drop, take_all}
 use Rattle.std.proofs.Math.Nat.{mul-le-mul_right}
 use Rattle.mix_base.proofs.Choices.{and_parts, number_is}
 use Rattle.mix_base.proofs.Firsts.{each_passes, filter_absorb}
 use Rattle.mix_base.proofs.Lists.{append_nil}
-use Rattle.mix_tree.specs.Forest.{Forest, none, tree, followed, forest_of}
+use Rattle.mix_tree.specs.Forest.{none, tree, followed, forest_of}
 use Rattle.mix_tree.specs.Weight.{nodes_of}
-use Rattle.mix_tree.proofs.Forests.{followed-none, forest_of-append}
+use Rattle.mix_tree.proofs.Forests.{followed-none}
 use Rattle.lxp_core.specs.declared.open_tree.HoleId.{HoleId}
-use Rattle.lxp_core.specs.Open.{Open, nil, node, hole, closed, weight_of, AllHoles, IsApart, IsProgress, is_nil, has_node, begins_with_hole, open_followed, without_holes}
-use Rattle.lxp_core.proofs.Opens.{closed-open_followed, closed-without_holes, weight_of-open_followed, AllHoles-open_followed, AllHoles-without_holes, IsApart-without_holes}
+use Rattle.lxp_core.specs.Open.{closed, weight_of, AllHoles, IsProgress, begins_with_hole}
 use Rattle.mix_catalog.specs.declared.column.Column.{Column}
+use Rattle.row_document.specs.Rows.{name_given, rest_given}
+use Rattle.row_document.proofs.Lists.{name_closes, name_progress, name_small, rest_by, row_forest-append, rows_close, rows_forward, rows_known, rows_progress, rows_weigh}
 use Rattle.table_keep.specs.Page.{IsPageOf, first_above, is_above, keys_rise}
 use Rattle.table_keep.specs.Rows.{Row, Value}
 use Rattle.table_keep.specs.Views.{TablesView}
@@ -22,35 +23,14 @@ use Rattle.table_keep.proofs.Rising.{above_more, rise_above, rise_filter, rise_f
 use Rattle.table_wrap.specs.declared.document.TableDoc.{TableDoc}
 use Rattle.table_wrap.specs.declared.parts.Part.TheVariants.{Name, Rows}
 use Rattle.table_wrap.specs.Parts.{hole_of, part_of}
-use Rattle.table_wrap.specs.Rows.{cells, label_of, leaf, row_forest, row_tree}
+use Rattle.table_wrap.specs.Rows.{cells, label_of, leaf, row_cells, row_forest}
 use Rattle.table_wrap.specs.Wire.{AreInRange}
-use Rattle.table_wrap.proofs.Small.{small_name, small_rows}
-use Rattle.table_wrap.specs.Document.{AreFirst, IsAnswer, chunk_of, columns_of, declared_of, forest, knows, last_key, name_of, part_forest, part_weight, rest_given, room, row_weight, rows_given, rows_of, weight}
+use Rattle.table_wrap.proofs.Small.{short_name, small_page}
+use Rattle.table_wrap.specs.Document.{AreFirst, IsAnswer, chunk_of, columns_of, declared_of, forest, is_full, knows, last_key, name_of, page_given, part_forest, part_weight, room, row_weight, rows_of, weight}
 
 -- each key is one of 64 bits
 abbrev pub KeysFit : List Row → Type 0
 KeysFit rows = AllByRecursion (λ r. SFits w64 r.key) rows
-
--- what holds of both sides of a choice by a test holds of the choice
-by_test : (P : Open → Type 0) (b : Bool) (x y : Open) → (b ≡ true → P x) → (b ≡ false → P y) → P (cond b x y)
-by_test P true x y h k = h refl
-by_test P false x y h k = k refl
-
--- the trees of rows in two pieces are those of the first, followed by those of the second
-row_forest-append : (columns : List Column) (xs ys : List Row) → row_forest columns (xs ++ ys) ≡ followed (row_forest columns xs) (row_forest columns ys)
-row_forest-append columns xs ys = ap forest_of (map-append (row_tree columns) xs ys) ∙ forest_of-append (map (row_tree columns) xs) (map (row_tree columns) ys)
-
--- holes stay apart after trees without holes
-apart_after : (f : Forest) (o : Open) → IsApart o → IsApart (open_followed (without_holes f) o)
-apart_after none o h = h
-apart_after (tree label kids rest) o h = (IsApart-without_holes kids, apart_after rest o h)
-
--- whole rows before a list that is empty where there are no rows have a node at the top, and no hole first
-top_of : (columns : List Column) (rows : List Row) (o : Open) → (rows ≡ [] → o ≡ nil)
-    → (is_nil (open_followed (without_holes (row_forest columns rows)) o) ≡ false → has_node (open_followed (without_holes (row_forest columns rows)) o) ≡ true)
-    × (begins_with_hole (open_followed (without_holes (row_forest columns rows)) o) ≡ false)
-top_of columns [] o h = (λ k. absurd (cc (h refl, k)), cc (h refl))
-top_of columns (r ∷ rows) o h = (λ k. refl, refl)
 
 -- nothing stands above what is above all
 above_irrefl : (key : ℤ) → int_lt key key ≡ false
@@ -107,11 +87,6 @@ rows_light : (columns : List Column) (rows : List Row) → nodes_of (row_forest 
 rows_light columns [] = omega arith
 rows_light columns (r ∷ rows) = omega (arith, one_more (length rows) (1 + 2 * length columns), cells_light columns r.values, rows_light columns rows)
 
--- a list without holes weighs as many nodes as it has
-without_light : (weight : HoleId → ℕ) (f : Forest) → weight_of weight (without_holes f) ≡ nodes_of f
-without_light weight none = refl
-without_light weight (tree label kids rest) = omega (arith, without_light weight kids, without_light weight rest)
-
 -- above a higher key there is room for one row less
 room_less : (after : Option ℤ) (key : ℤ) → is_above after key ≡ true → SFits w64 key → suc (room (Some key)) ≤ room after
 room_less None (pos n) h fits = omega arith
@@ -139,68 +114,63 @@ part_back : (key : ℤ) → SFits w64 key → part_of (hole_of (Rows (Some key))
 part_back key fits = ap (λ k. Some (Rows (Some k))) (to_z-of_z w64 key fits)
 
 module _ (d : TableDoc) (after : Option ℤ) (rows : List Row) where
-  -- the hole for the rows above a key
-  rest_hole : HoleId
+  -- the hole for the rows above the last key
+  abbrev rest_hole : HoleId
   rest_hole = hole_of (Rows (last_key after rows))
 
-  -- no rows are fewer than a chunk
-  none_left : rows ≡ [] → rest_given d after rows ≡ nil
-  none_left e = by_test (λ o. o ≡ nil) (length rows == d.chunk) (hole (hole_of (Rows (last_key after rows))) nil) nil (λ full. absurd (few full (ap length e))) (λ k. refl)
-    where
-      few : (length rows == d.chunk) ≡ true → length rows ≡ 0 → ⊥
-      few full empty = let same = number_is (length rows) d.chunk full in omega (arith, d.some, same, empty)
+  -- a full page has rows
+  some_rows : is_full d rows ≡ true → rows ≡ [] → ⊥
+  some_rows full e = let same = number_is (length rows) d.chunk full in let empty : length rows ≡ 0 = ap length e in omega (arith, d.some, same, empty)
 
-  -- where there is a hole after rows, these are as many as a chunk, and its part is the rows above the last
-  rest_part : (length rows == d.chunk) ≡ true → KeysFit rows → part_of (hole_of (Rows (last_key after rows))) ≡ Some (Rows (last_key after rows))
+  -- no rows are no full page
+  none_full : rows ≡ [] → is_full d rows ≡ false
+  none_full e = by_full (is_full d rows) refl
+    where
+      by_full : (b : Bool) → is_full d rows ≡ b → b ≡ false
+      by_full true full = absurd (some_rows full e)
+      by_full false full = refl
+
+  -- where there is a hole after rows, its part is the rows above the last
+  rest_part : is_full d rows ≡ true → KeysFit rows → part_of (hole_of (Rows (last_key after rows))) ≡ Some (Rows (last_key after rows))
   rest_part full fits =
-      let some : rows ≡ [] → ⊥ = λ e. (let same = number_is (length rows) d.chunk full in let empty : length rows ≡ 0 = ap length e in omega (arith, d.some, same, empty)) in
-      let last = last_fits after rows some fits in
+      let last = last_fits after rows (some_rows full) fits in
       subst (λ (l : Option ℤ). part_of (hole_of (Rows l)) ≡ Some (Rows l)) (sym last.1) (part_back last.0 last.2)
 
   -- the list of a page keeps progress
-  pub progress-rows : IsProgress (rows_given d after rows)
-  progress-rows = record {
-    top = (top_of (columns_of d) rows (rest_given d after rows) none_left).0;
-    apart = apart_after (row_forest (columns_of d) rows) (rest_given d after rows)
-        (by_test IsApart (length rows == d.chunk) (hole (hole_of (Rows (last_key after rows))) nil) nil (λ k. (refl, tt)) (λ k. tt));
-  }
+  progress_page : IsProgress (page_given d after rows)
+  progress_page = rows_progress (row_cells (columns_of d)) rows (is_full d rows) rest_hole none_full
 
   -- the list of a page begins with no hole
-  pub forward-rows : begins_with_hole (rows_given d after rows) ≡ false
-  forward-rows = (top_of (columns_of d) rows (rest_given d after rows) none_left).1
+  forward_page : begins_with_hole (page_given d after rows) ≡ false
+  forward_page = rows_forward (row_cells (columns_of d)) rows (is_full d rows) rest_hole none_full
 
   -- all holes of the list of a page are known
-  pub known-rows : AllHoles (knows d) (rows_given d after rows)
-  known-rows =
-      AllHoles-open_followed (knows d) (without_holes (row_forest (columns_of d) rows)) (rest_given d after rows)
-      (AllHoles-without_holes (knows d) (row_forest (columns_of d) rows))
-      (by_test (AllHoles (knows d)) (length rows == d.chunk) (hole (hole_of (Rows (last_key after rows))) nil) nil (λ k. (known (last_key after rows), tt)) (λ k. tt))
+  known_page : AllHoles (knows d) (page_given d after rows)
+  known_page = rows_known (row_cells (columns_of d)) rows (is_full d rows) rest_hole (knows d) (λ full. known (last_key after rows))
     where
       known : (last : Option ℤ) → knows d (hole_of (Rows last)) ≡ true
       known None = refl
       known (Some key) = refl
 
   -- the list of a page weighs no more than the part of the rows above the key
-  pub lighter-rows : keys_rise after rows ≡ true → KeysFit rows → weight_of (weight d) (rows_given d after rows) ≤ room after * row_weight d
-  lighter-rows rise fits =
-      let columns = columns_of d in
-      let both = weight_of-open_followed (weight d) (without_holes (row_forest (columns_of d) rows)) (rest_given d after rows) in
-      let first = without_light (weight d) (row_forest (columns_of d) rows) in
+  lighter_page : keys_rise after rows ≡ true → KeysFit rows → weight_of (weight d) (page_given d after rows) ≤ room after * row_weight d
+  lighter_page rise fits =
+      let both = rows_weigh (row_cells (columns_of d)) rows (is_full d rows) rest_hole (weight d) in
       let light = rows_light (columns_of d) rows in
       let space = mul-le-mul_right {m = length rows + room (last_key after rows)} {n = room after} (row_weight d) (rows_room after rows rise fits) in
       let split : (length rows + room (last_key after rows)) * row_weight d ≡ length rows * row_weight d + room (last_key after rows) * row_weight d = add_mul (length rows) (room (last_key after rows)) (row_weight d) in
-      omega (arith, both, first, light, space, split, rest_light)
+      omega (arith, both, light, space, split, rest_light)
     where
       add_mul : (a b w : ℕ) → (a + b) * w ≡ a * w + b * w
       add_mul a b w = grind arith
 
-      rest_light : weight_of (weight d) (rest_given d after rows) ≤ room (last_key after rows) * row_weight d
-      rest_light = by_test (λ o. weight_of (weight d) o ≤ room (last_key after rows) * row_weight d) (length rows == d.chunk) (hole (hole_of (Rows (last_key after rows))) nil) nil
+      rest_light : weight_of (weight d) (rest_given (is_full d rows) rest_hole) ≤ room (last_key after rows) * row_weight d
+      rest_light = rest_by (λ o. weight_of (weight d) o ≤ room (last_key after rows) * row_weight d) (is_full d rows) rest_hole
           (λ full. (let same = ap (part_weight d) (rest_part full fits) in omega (arith, same))) (λ k. omega arith)
 
   -- a hole after the rows closes to the rows above the last
-  rest_closes : (v : TablesView) → (length rows == d.chunk) ≡ true → KeysFit rows
-      → forest v d (hole_of (Rows (last_key after rows))) ≡ row_forest (columns_of d) (filter (λ r. is_above (last_key after rows) r.key) (rows_of v d))
+  rest_closes : (v : TablesView) → is_full d rows ≡ true → KeysFit rows
+      → forest v d rest_hole ≡ row_forest (columns_of d) (filter (λ r. is_above (last_key after rows) r.key) (rows_of v d))
   rest_closes v full fits = ap (part_forest (rows_of v d) d) (rest_part full fits)
 
 -- the first rows above a key, and the rows above the last of them, where there are as many as may be
@@ -234,51 +204,50 @@ first_and_rest chunk after all rise =
         ∙ append_nil (take n above) ∙ take_all n above (shorter n above e)
 
 -- where rows are told, the list of a page closes to the rows above the key
-pub closed-rows : (v : TablesView) (d : TableDoc) (after : Option ℤ) (rows all : List Row) → v.told (declared_of d) ≡ Some all → keys_rise None all ≡ true
+closed_page : (v : TablesView) (d : TableDoc) (after : Option ℤ) (rows all : List Row) → v.told (declared_of d) ≡ Some all → keys_rise None all ≡ true
     → rows ≡ first_above after (chunk_of d) all → KeysFit rows
-    → closed (forest v d) (rows_given d after rows) ≡ part_forest (rows_of v d) d (Some (Rows after))
-closed-rows v d after rows all told rise first fits =
+    → closed (forest v d) (page_given d after rows) ≡ part_forest (rows_of v d) d (Some (Rows after))
+closed_page v d after rows all told rise first fits =
     let columns = columns_of d in
     let beyond = filter (λ (r : Row). is_above (last_key after rows) r.key) all in
-    closed-open_followed (forest v d) (without_holes (row_forest columns rows)) (rest_given d after rows)
-    ∙ ap (λ f. followed f (closed (forest v d) (rest_given d after rows))) (closed-without_holes (forest v d) (row_forest columns rows))
-    ∙ ap (followed (row_forest columns rows)) (closed-rest (length rows == chunk_of d) refl)
-    ∙ sym (row_forest-append columns rows (cond (length rows == chunk_of d) beyond []))
+    rows_close (row_cells columns) rows (is_full d rows) (rest_hole d after rows) (forest v d)
+    ∙ ap (followed (row_forest columns rows)) (closed-rest (is_full d rows) refl)
+    ∙ sym (row_forest-append (row_cells columns) rows (cond (is_full d rows) beyond []))
     ∙ ap (row_forest columns) (subst (λ (rs : List Row). rs ++ cond (length rs == chunk_of d) (filter (λ r. is_above (last_key after rs) r.key) all) [] ≡ filter (λ r. is_above after r.key) all) (sym first) (first_and_rest (chunk_of d) after all rise))
     ∙ sym (ap (λ (rs : List Row). row_forest columns (filter (λ r. is_above after r.key) rs)) (ap (λ (o : Option (List Row)). unwrap_or o []) told))
   where
-    closed-rest : (b : Bool) → (length rows == chunk_of d) ≡ b → closed (forest v d) (rest_given d after rows)
-        ≡ row_forest (columns_of d) (cond (length rows == chunk_of d) (filter (λ (r : Row). is_above (last_key after rows) r.key) all) [])
+    closed-rest : (b : Bool) → is_full d rows ≡ b → closed (forest v d) (rest_given (is_full d rows) (rest_hole d after rows))
+        ≡ row_forest (columns_of d) (cond (is_full d rows) (filter (λ (r : Row). is_above (last_key after rows) r.key) all) [])
     closed-rest true e =
-        ap (λ b. closed (forest v d) (cond b (hole (hole_of (Rows (last_key after rows))) nil) nil)) e
-        ∙ followed-none (forest v d (hole_of (Rows (last_key after rows))))
+        ap (λ b. closed (forest v d) (rest_given b (rest_hole d after rows))) e
+        ∙ followed-none (forest v d (rest_hole d after rows))
         ∙ rest_closes d after rows v e fits
         ∙ ap (λ (rs : List Row). row_forest (columns_of d) (filter (λ r. is_above (last_key after rows) r.key) rs)) (ap (λ (o : Option (List Row)). unwrap_or o []) told)
         ∙ ap (λ b. row_forest (columns_of d) (cond b (filter (λ (r : Row). is_above (last_key after rows) r.key) all) [])) (sym e)
     closed-rest false e =
-        ap (λ b. closed (forest v d) (cond b (hole (hole_of (Rows (last_key after rows))) nil) nil)) e
+        ap (λ b. closed (forest v d) (rest_given b (rest_hole d after rows))) e
         ∙ ap (λ b. row_forest (columns_of d) (cond b (filter (λ (r : Row). is_above (last_key after rows) r.key) all) [])) (sym e)
 
 -- the list of a page is an answer
 pub answer_rows : (v : TablesView) (d : TableDoc) (after : Option ℤ) (rows : List Row) → ((all : List Row) → v.told (declared_of d) ≡ Some all → keys_rise None all ≡ true)
     → IsPageOf after (chunk_of d) (columns_of d) rows → AreFirst v d after rows → KeysFit rows
-    → AllByRecursion (λ r. AreInRange (columns_of d) r.values) rows → IsAnswer v d (Some (Rows after)) (rows_given d after rows)
+    → AllByRecursion (λ r. AreInRange (columns_of d) r.values) rows → IsAnswer v d (Some (Rows after)) (page_given d after rows)
 answer_rows v d after rows rising page first fits range = record {
   list = (rows, page, first, refl);
   answers = λ h at. record {
     closes = λ told. closes (v.told (declared_of d)) refl told first ∙ ap (part_forest (rows_of v d) d) (sym at);
-    progress = progress-rows d after rows;
-    known = known-rows d after rows;
-    lighter = subst (λ p. weight_of (weight d) (rows_given d after rows) ≤ part_weight d p) (sym at) (lighter-rows d after rows page.rise fits);
-    forward = λ told. forward-rows d after rows;
-    small = λ told. small_rows d after rows page range;
+    progress = progress_page d after rows;
+    known = known_page d after rows;
+    lighter = subst (λ p. weight_of (weight d) (page_given d after rows) ≤ part_weight d p) (sym at) (lighter_page d after rows page.rise fits);
+    forward = λ told. forward_page d after rows;
+    small = λ told. small_page d after rows page range;
   };
 }
   where
     closes : (found : Option (List Row)) → v.told (declared_of d) ≡ found → is_some found ≡ true → IfSome found (λ all. rows ≡ first_above after (chunk_of d) all)
-        → closed (forest v d) (rows_given d after rows) ≡ part_forest (rows_of v d) d (Some (Rows after))
+        → closed (forest v d) (page_given d after rows) ≡ part_forest (rows_of v d) d (Some (Rows after))
     closes None e h f = absurd (cc h)
-    closes (Some all) e h f = closed-rows v d after rows all e (rising all e) f fits
+    closes (Some all) e h f = closed_page v d after rows all e (rising all e) f fits
 
 -- all rows stand above no key
 above_none : (rows : List Row) → filter (λ r. is_above None r.key) rows ≡ rows
@@ -286,17 +255,17 @@ above_none [] = refl
 above_none (r ∷ rows) = ap (λ (rs : List Row). r ∷ rs) (above_none rows)
 
 -- the name with the hole of all rows is an answer
-pub answer_name : (v : TablesView) (d : TableDoc) → IsAnswer v d (Some Name) (node (name_of d) (hole (hole_of (Rows None)) nil) nil)
+pub answer_name : (v : TablesView) (d : TableDoc) → IsAnswer v d (Some Name) (name_given (name_of d) (hole_of (Rows None)))
 answer_name v d = record {
   list = refl;
   answers = λ h at. record {
     closes = λ told.
-        ap (λ f. tree (name_of d) f none) (followed-none (row_forest (columns_of d) (filter (λ (r : Row). is_above None r.key) (rows_of v d))) ∙ ap (row_forest (columns_of d)) (above_none (rows_of v d)))
+        name_closes (forest v d) (name_of d) (hole_of (Rows None)) ∙ ap (λ rs. tree (name_of d) (row_forest (columns_of d) rs) none) (above_none (rows_of v d))
         ∙ ap (part_forest (rows_of v d) d) (sym at);
-    progress = record { top = λ k. refl; apart = ((refl, tt), tt) };
+    progress = name_progress (name_of d) (hole_of (Rows None));
     known = ((refl, tt), tt);
-    lighter = subst (λ p. weight_of (weight d) (node (name_of d) (hole (hole_of (Rows None)) nil) nil) ≤ part_weight d p) (sym at) (omega arith);
+    lighter = subst (λ p. weight_of (weight d) (name_given (name_of d) (hole_of (Rows None))) ≤ part_weight d p) (sym at) (omega arith);
     forward = λ told. refl;
-    small = λ told. small_name d;
+    small = λ told. name_small (name_of d) (hole_of (Rows None)) (short_name d);
   };
 }

@@ -1,5 +1,5 @@
 -- The lists of a table's document are small enough for a wire.
-use Rattle.std.proofs.Common.{◌≡◌, ℕ, suc, ◌+◌, ◌^◌, ◌<◌, ◌≤◌, ◌==◌, Bool, true, false, cond, ℤ, List, [], ◌∷◌, length, Option, Some, None, nat_lt, SFits, w64, arith}
+use Rattle.std.proofs.Common.{◌≡◌, ℕ, suc, ◌^◌, ◌<◌, ◌≤◌, true, ℤ, List, [], ◌∷◌, length, Option, Some, None, nat_lt, SFits, w64, arith}
 use Rattle.std.specs.Fmt.{signed_decimal}
 use Rattle.std.specs.List.{AllByRecursion, list_all}
 use Rattle.std.proofs.lemmas.Bool.Decides.{nat_tests}
@@ -9,16 +9,16 @@ use Rattle.hex.proofs.HexLemmas.{length-encode_with}
 use Rattle.mix_base.proofs.Choices.{and_parts}
 use Rattle.mix_tree.specs.Forest.{forest_of}
 use Rattle.mix_catalog.specs.declared.column.Column.{Column}
-use Rattle.lxp_core.specs.declared.open_tree.HoleId.{HoleId}
-use Rattle.lxp_core.specs.Open.{Open, nil, node, hole, open_followed, without_holes}
+use Rattle.lxp_core.specs.Open.{without_holes}
 use Rattle.lxp_core.specs.Small.{IsSmall, IsSmallWithin, tops_of}
+use Rattle.row_document.proofs.Lists.{AreSmallCells, rows_small}
 use Rattle.table_keep.specs.Page.{IsPageOf, all_fit, cells_fit, fits, row_fits}
 use Rattle.table_keep.specs.Rows.{Row, Value, null, int, text, bytes}
 use Rattle.table_wrap.specs.declared.document.TableDoc.{TableDoc}
 use Rattle.table_wrap.specs.declared.parts.Part.TheVariants.{Rows}
-use Rattle.table_wrap.specs.Document.{chunk_of, columns_of, last_key, name_of, rest_given, rows_given}
+use Rattle.table_wrap.specs.Document.{chunk_of, columns_of, is_full, last_key, name_of, page_given}
 use Rattle.table_wrap.specs.Parts.{hole_of}
-use Rattle.table_wrap.specs.Rows.{cells, label_of, leaf, row_forest}
+use Rattle.table_wrap.specs.Rows.{cells, label_of, leaf, row_cells}
 use Rattle.table_wrap.specs.Wire.{AreInRange, IsInRange, is_short}
 
 -- a number that passes a test is below the other
@@ -60,33 +60,13 @@ cells_few [] values = omega arith
 cells_few (c ∷ cs) [] = omega arith
 cells_few (c ∷ cs) (v ∷ vs) = omega (arith, cells_few cs vs)
 
--- each row of a page is one tree
-rows_few : (columns : List Column) (rows : List Row) (rest : Open) → tops_of (open_followed (without_holes (row_forest columns rows)) rest) ≡ length rows + tops_of rest
-rows_few columns [] rest = omega arith
-rows_few columns (r ∷ rows) rest = omega (arith, rows_few columns rows rest)
-
--- the rows of a page are small, before what is small
-rows_small : (levels : ℕ) (columns : List Column) (rows : List Row) (rest : Open) → length columns < 2 ^ 32 → list_all (λ c. is_short c.name) columns ≡ true
-    → all_fit columns rows ≡ true → AllByRecursion (λ r. AreInRange columns r.values) rows → IsSmallWithin (suc (suc (suc levels))) rest
-    → IsSmallWithin (suc (suc (suc levels))) (open_followed (without_holes (row_forest columns rows)) rest)
-rows_small levels columns [] rest few names h range small = small
-rows_small levels columns (r ∷ rows) rest few names h range small =
-    let fit = and_parts (row_fits columns r) (all_fit columns rows) h in (
-      omega arith,
-      omega (arith, cells_few columns r.values),
-      cells_small levels columns r.values fit.0 names range.0,
-      rows_small levels columns rows rest few names fit.1 range.1 small,
-    )
-
--- at most one hole stands after the rows of a page
-rest_few : (full : Bool) (h : HoleId) → tops_of (cond full (hole h nil) nil) ≤ 1
-rest_few true h = omega arith
-rest_few false h = omega arith
-
--- the hole after the rows of a page is small
-rest_small : (levels : ℕ) (full : Bool) (h : HoleId) → IsSmallWithin (suc levels) (cond full (hole h nil) nil)
-rest_small levels true h = tt
-rest_small levels false h = tt
+-- the cells of the rows of a page are small
+rows_fit : (columns : List Column) (rows : List Row) → length columns < 2 ^ 32 → list_all (λ c. is_short c.name) columns ≡ true → all_fit columns rows ≡ true
+    → AllByRecursion (λ r. AreInRange columns r.values) rows → AllByRecursion (λ r. AreSmallCells (row_cells columns r)) rows
+rows_fit columns [] few names h range = tt
+rows_fit columns (r ∷ rows) few names h range =
+    let fit = and_parts (row_fits columns r) (all_fit columns rows) h in
+    (record { few = omega (arith, cells_few columns r.values, few); small = cells_small 197 columns r.values fit.0 names range.0 }, rows_fit columns rows few names fit.1 range.1)
 
 module _ (d : TableDoc) where
   -- the name of a document that fits a wire is short
@@ -102,15 +82,8 @@ module _ (d : TableDoc) where
   short_columns = (and_parts (nat_lt (length (columns_of d)) (2 ^ 32)) _ (and_parts (is_short (name_of d)) _ d.small).1).1
 
   -- the list of a page is small enough for a wire
-  pub small_rows : (after : Option ℤ) (rows : List Row) → IsPageOf after (chunk_of d) (columns_of d) rows → AllByRecursion (λ r. AreInRange (columns_of d) r.values) rows
-      → IsSmall (rows_given d after rows)
-  small_rows after rows page range =
-      let full = length rows == chunk_of d in
-      let id = hole_of (Rows (last_key after rows)) in
-      let few = rest_few full id in
-      let tops = rows_few (columns_of d) rows (rest_given d after rows) in
-      (omega (arith, tops, few, page.few, d.few), rows_small 197 (columns_of d) rows (rest_given d after rows) few_columns short_columns page.cells range (rest_small 199 full id))
-
-  -- the list of the whole document is small enough for a wire
-  pub small_name : IsSmall (node (name_of d) (hole (hole_of (Rows None)) nil) nil)
-  small_name = (omega arith, (short_name, omega arith, tt, tt))
+  pub small_page : (after : Option ℤ) (rows : List Row) → IsPageOf after (chunk_of d) (columns_of d) rows → AllByRecursion (λ r. AreInRange (columns_of d) r.values) rows
+      → IsSmall (page_given d after rows)
+  small_page after rows page range =
+      rows_small (row_cells (columns_of d)) rows (is_full d rows) (hole_of (Rows (last_key after rows)))
+      (rows_fit (columns_of d) rows few_columns short_columns page.cells range) (omega (arith, page.few, d.few))

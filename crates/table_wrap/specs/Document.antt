@@ -1,15 +1,16 @@
 -- What a table's document and its holes mean.
-use Rattle.std.specs.Prelude.{◌≡◌, ℕ, ◌+◌, ◌-◌, ◌*◌, ◌^◌, ◌==◌, Bool, true, false, cond, ℤ, pos, negsuc, List, [], ◌∷◌, length, Option, Some, None, IfSome, is_some, unwrap_or, refl}
+use Rattle.std.specs.Prelude.{◌≡◌, ℕ, ◌+◌, ◌-◌, ◌*◌, ◌^◌, ◌==◌, Bool, true, false, ℤ, pos, negsuc, List, [], ◌∷◌, length, Option, Some, None, IfSome, is_some, unwrap_or, refl}
 use Rattle.std.specs.List.{filter}
 use Rattle.std.proofs.Common.{ap}
 use Rattle.mix_tree.specs.Forest.{Forest, none, alone}
 use Rattle.lxp_core.specs.declared.open_tree.HoleId.{HoleId}
-use Rattle.lxp_core.specs.Open.{Open, nil, node, hole, open_followed, without_holes}
+use Rattle.lxp_core.specs.Open.{Open}
 use Rattle.lxp_core.specs.Fill.{Answers}
 use Rattle.mix_catalog.specs.declared.column.Column.{Column}
 use Rattle.table_keep.specs.Page.{IsPageOf, first_above, is_above}
 use Rattle.table_keep.specs.Rows.{Row}
 use Rattle.table_keep.specs.Views.{Declared, TablesView}
+use Rattle.row_document.specs.Rows.{name_given, rows_given}
 use Rattle.source_document.specs.Meaning.{IsKept, Meaning, over}
 use Rattle.mix_catalog.specs.declared.source.SourceKind.{SourceKind}
 use Rattle.mix_catalog.specs.declared.source.SourceKind.TheVariants.{Bracket, Csv, Table, Remote, Json, View}
@@ -17,7 +18,7 @@ use Rattle.table_wrap.specs.declared.document.TableDoc.{TableDoc}
 use Rattle.table_wrap.specs.declared.parts.Part.{Part}
 use Rattle.table_wrap.specs.declared.parts.Part.TheVariants.{Name, Rows}
 use Rattle.table_wrap.specs.Parts.{hole_of, part_of}
-use Rattle.table_wrap.specs.Rows.{row_forest, table_tree}
+use Rattle.table_wrap.specs.Rows.{row_cells, row_forest, table_tree}
 
 -- how many rows a page of a table's document has at most
 abbrev pub chunk_of : TableDoc → ℕ
@@ -70,13 +71,13 @@ abbrev pub last_key : Option ℤ → List Row → Option ℤ
 last_key after [] = after
 last_key after (r ∷ rows) = last_key (Some r.key) rows
 
--- the hole after the rows of a page, where these are as many as a page may have
-abbrev pub rest_given : TableDoc → Option ℤ → List Row → Open
-rest_given d after rows = cond (length rows == chunk_of d) (hole (hole_of (Rows (last_key after rows))) nil) nil
+-- whether rows may be left after those of a page: these are as many as a page may have
+abbrev pub is_full : TableDoc → List Row → Bool
+is_full d rows = length rows == chunk_of d
 
--- the list that a page of rows above a key gives: each row whole, and the hole after them
-abbrev pub rows_given : TableDoc → Option ℤ → List Row → Open
-rows_given d after rows = open_followed (without_holes (row_forest (columns_of d) rows)) (rest_given d after rows)
+-- the list that a page of rows above a key gives: each row whole, and a hole for the rows above the last key behind a full page
+abbrev pub page_given : TableDoc → Option ℤ → List Row → Open
+page_given d after rows = rows_given (row_cells (columns_of d)) rows (is_full d rows) (hole_of (Rows (last_key after rows)))
 
 -- rows are the first ones of a document above a key, at most a page of them, where the rows are told
 abbrev pub AreFirst : TablesView → TableDoc → Option ℤ → List Row → Type 0
@@ -85,8 +86,8 @@ AreFirst v d after rows = IfSome (v.told (declared_of d)) (λ all. rows ≡ firs
 -- a list that may answer a part's fill: the name, above a hole for all rows; or a page of rows, and a hole after them exactly where the page is full
 abbrev pub IsGiven : TablesView → TableDoc → Option Part → Open → Type 0
 IsGiven v d None o = ⊥
-IsGiven v d (Some Name) o = o ≡ node (name_of d) (hole (hole_of (Rows None)) nil) nil
-IsGiven v d (Some (Rows after)) o = (rows : List Row) × IsPageOf after (chunk_of d) (columns_of d) rows × AreFirst v d after rows × (o ≡ rows_given d after rows)
+IsGiven v d (Some Name) o = o ≡ name_given (name_of d) (hole_of (Rows None))
+IsGiven v d (Some (Rows after)) o = (rows : List Row) × IsPageOf after (chunk_of d) (columns_of d) rows × AreFirst v d after rows × (o ≡ page_given d after rows)
 
 -- whether a fill of a part of a table's document asks for a page
 abbrev pub asks : Option Part → Bool

@@ -1,9 +1,10 @@
 -- The document of a table: the source's name, below it the rows, and below each row its columns, each with its value below it.
-use Rattle.std.specs.Prelude.{ℕ, List, [], ◌∷◌, map, Option, Some, None}
+use Rattle.std.specs.Prelude.{ℕ, List, [], ◌∷◌, Option, Some, None}
 use Rattle.std.specs.Fmt.{signed_decimal}
 use Rattle.hex.specs.Hex.{encode_lower}
-use Rattle.mix_tree.specs.Forest.{Forest, none, tree, LabelledTree, forest_of}
+use Rattle.mix_tree.specs.Forest.{Forest, none, tree, LabelledTree}
 use Rattle.mix_catalog.specs.declared.column.Column.{Column}
+use Rattle.row_document.specs.Rows as rows
 use Rattle.table_keep.specs.Rows.{Value, null, int, text, bytes, Row}
 
 -- the label of a value: a number in decimal digits, a text itself, bytes with two digits each, and none of NULL
@@ -28,14 +29,14 @@ cells [] values = []
 cells (c ∷ cs) [] = []
 cells (c ∷ cs) (v ∷ vs) = cell c v ∷ cells cs vs
 
--- the tree of a table's row, which is called "row"
-abbrev pub row_tree : List Column → Row → LabelledTree
-row_tree columns r = record { label = 114 ∷ 111 ∷ 119 ∷ []; kids = forest_of (cells columns r.values) }
+-- the trees of the columns of a row of a table
+abbrev pub row_cells : List Column → Row → List LabelledTree
+row_cells columns r = cells columns r.values
 
 -- the trees of a table's rows, one after another
 abbrev pub row_forest : List Column → List Row → Forest
-row_forest columns rows = forest_of (map (row_tree columns) rows)
+row_forest columns all = rows.row_forest (row_cells columns) all
 
 -- the tree of a table: the source's name, and the rows under given columns below it
 abbrev pub table_tree : List ℕ → List Column → List Row → LabelledTree
-table_tree name columns rows = record { label = name; kids = row_forest columns rows }
+table_tree name columns all = rows.rows_tree name (row_cells columns) all

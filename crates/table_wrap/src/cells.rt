@@ -11,6 +11,7 @@ ghost use Rattle.table_wrap.specs.Wire.{IsInRange};
 use lxp_core::OpenTree;
 use mix_catalog::Column;
 use mix_tree::Label;
+use row_document::push_node;
 use std::alloc::{AllocError, Global};
 use table_keep::Cell;
 
@@ -42,19 +43,6 @@ fn label_of(alloc: Global, cell: Cell) -> Result<Option<Label>, AllocError>
         Cell::Text(text) => Ok(Some(text)),
         Cell::Bytes(bytes) => Ok(Some(hex_label(alloc, bytes)?)),
     }
-}
-
-/// Puts a node at the end of a list of trees, above a list of its own.
-pub fn push_node(
-    list: &mut Vec<OpenTree>,
-    label: Label,
-    kids: Vec<OpenTree>,
-) -> Result<(), AllocError>
-    ensures { OnOk result ((rest : Open) → put_all list.new.items rest
-        ≡ put_all list.old.items (node label (plain kids.items) rest)) }
-{
-    list.push(OpenTree::Node { label, kids })?;
-    Ok(())
 }
 
 // The list of a leaf with the label of a cell, where it has one.

@@ -1,35 +1,25 @@
 // The lists with which a table's document answers.
-ghost use Rattle.std.specs.Prelude.{◌≡◌, ◌∷◌, [], cond, IfOk, OnOk, None, map, FitsSigned};
+ghost use Rattle.std.specs.Prelude.{◌≡◌, IfOk, None, map, FitsSigned};
 ghost use Rattle.std.specs.Int.{w64};
 ghost use Rattle.std.specs.List.{AllByRecursion};
 ghost use Rattle.mix_tree.specs.Forest.{forest_of};
-ghost use Rattle.lxp_core.specs.Open.{Open, node, hole, nil, without_holes};
-ghost use Rattle.lxp_core.specs.Plain.{plain, put_all};
+ghost use Rattle.lxp_core.specs.Open.{without_holes};
+ghost use Rattle.lxp_core.specs.Plain.{plain};
+ghost use Rattle.row_document.specs.Rows.{name_given};
 ghost use Rattle.table_keep.specs.Rows.{rows_of, value_of};
-ghost use Rattle.table_wrap.specs.Document.{columns_of, name_of, rows_given};
+ghost use Rattle.table_wrap.specs.Document.{columns_of, name_of, page_given};
 ghost use Rattle.table_wrap.specs.declared.parts.Part.TheVariants.{Rows};
 ghost use Rattle.table_wrap.specs.Parts.{hole_of};
 ghost use Rattle.table_wrap.specs.Rows.{cells};
 ghost use Rattle.table_wrap.specs.Wire.{AreInRange};
 
 use crate::TableDoc;
-use crate::cells::{push_cell, push_node};
+use crate::cells::push_cell;
 use crate::parts::Part;
 use lxp_core::OpenTree;
-use mix_tree::Label;
+use row_document::{name_list, push_rest, push_row};
 use std::alloc::{AllocError, Global};
 use table_keep::{Cell, TableRow};
-
-// Puts the hole of the rows above a key at the end of a list, where it is wanted.
-fn push_rest(list: &mut Vec<OpenTree>, wanted: bool, last: Option<i64>) -> Result<(), AllocError>
-    ensures { OnOk result (plain list.new.items
-        ≡ put_all list.old.items (cond wanted (hole (hole_of (Rows last)) nil) nil)) }
-{
-    if wanted {
-        list.push(OpenTree::Hole(Part::Rows(last).hole()))?;
-    }
-    Ok(())
-}
 
 impl TableDoc {
     // The columns of a row, each with the label of its cell below it.
@@ -50,32 +40,11 @@ impl TableDoc {
         Ok(list)
     }
 
-    // Puts a row of given cells at the end of a list, with its columns below it.
-    fn push_row(
-        &self,
-        alloc: Global,
-        list: &mut Vec<OpenTree>,
-        found: Vec<Cell>,
-    ) -> Result<(), AllocError>
-        ensures put { OnOk result ((rest : Open) → put_all list.new.items rest
-            ≡ put_all list.old.items (node (114 ∷ 111 ∷ 119 ∷ []) (without_holes (forest_of (cells (columns_of self.now) (map value_of found.items)))) rest)) }
-        // Each number is one of 64 bits.
-        ensures range { OnOk result (AreInRange (columns_of self.now) (map value_of found.items)) }
-    {
-        let label = Label::of_text(alloc, b"row")?;
-        let kids = self.cells(alloc, found)?;
-        push_node(list, label, kids)
-    }
-
     /// The list of the whole document: the source's name, above a hole for all rows.
     pub(crate) fn give_name(&self, alloc: Global) -> Result<Vec<OpenTree>, AllocError>
-        ensures { IfOk result (λ list. plain list.items ≡ node (name_of self.now) (hole (hole_of (Rows None)) nil) nil) }
+        ensures { IfOk result (λ list. plain list.items ≡ name_given (name_of self.now) (hole_of (Rows None))) }
     {
-        let mut kids = Vec::new(alloc);
-        kids.push(OpenTree::Hole(Part::Rows(None).hole()))?;
-        let mut list = Vec::new(alloc);
-        push_node(&mut list, self.name.copy(alloc)?, kids)?;
-        Ok(list)
+        name_list(alloc, &self.name, Part::Rows(None).hole())
     }
 
     /// The list of a page of rows above a key: each row whole, and a hole after them where they are as many as a page may have.
@@ -85,7 +54,7 @@ impl TableDoc {
         after: Option<i64>,
         rows: Vec<TableRow>,
     ) -> Result<Vec<OpenTree>, AllocError>
-        ensures given { IfOk result (λ list. plain list.items ≡ rows_given self.now after (rows_of rows.items)) }
+        ensures given { IfOk result (λ list. plain list.items ≡ page_given self.now after (rows_of rows.items)) }
         // Each key is one of 64 bits.
         ensures keys { IfOk result (λ _. AllByRecursion (λ r. FitsSigned w64 r.key) (rows_of rows.items)) }
         // Each number is one of 64 bits.
@@ -98,9 +67,9 @@ impl TableDoc {
         'rows: for row in rows {
             let TableRow { key, cells } = row;
             last = Some(key);
-            self.push_row(alloc, &mut list, cells)?;
+            push_row(alloc, &mut list, self.cells(alloc, cells)?)?;
         }
-        push_rest(&mut list, full, last)?;
+        push_rest(&mut list, full, Part::Rows(last).hole())?;
         Ok(list)
     }
 }
