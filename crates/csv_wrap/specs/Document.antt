@@ -1,15 +1,16 @@
 -- What a CSV document and its holes mean.
-use Rattle.std.specs.Prelude.{◌≡◌, ℕ, ◌+◌, Bool, true, false, cond, nat_le, nat_lt, List, take, drop, length, Option, Some, None, refl}
+use Rattle.std.specs.Prelude.{◌≡◌, ℕ, ◌+◌, Bool, true, false, nat_le, nat_lt, List, take, drop, length, Option, Some, None, refl}
 use Rattle.mix_tree.specs.Forest.{Forest, none, alone}
 use Rattle.mix_tree.specs.Weight.{nodes_of}
 use Rattle.lxp_core.specs.declared.open_tree.HoleId.{HoleId}
-use Rattle.lxp_core.specs.Open.{Open, nil, node, hole, open_followed, without_holes}
+use Rattle.lxp_core.specs.Open.{Open, nil}
+use Rattle.row_document.specs.Rows.{name_given, rows_given}
 use Rattle.source_document.specs.Meaning.{IsKept, Meaning, in_memory, in_memory_kept}
 use Rattle.csv_wrap.specs.declared.document.CsvDoc.{CsvDoc}
 use Rattle.csv_wrap.specs.declared.parts.Part.{Part}
 use Rattle.csv_wrap.specs.declared.parts.Part.TheVariants.{Name, RowsFrom}
 use Rattle.csv_wrap.specs.Parts.{hole_of, part_of}
-use Rattle.csv_wrap.specs.Rows.{row_forest, file_tree}
+use Rattle.csv_wrap.specs.Rows.{cells, file_tree, row_forest}
 use Rattle.csv_wrap.specs.Table.{rows_in}
 
 -- how many rows a list that a CSV document gives has at most
@@ -36,16 +37,16 @@ part_forest d None = none
 part_forest d (Some Name) = alone (file_tree d.name (columns_of d) (rows_of d))
 part_forest d (Some (RowsFrom first)) = row_forest (columns_of d) (drop first (rows_of d))
 
--- a hole for the rows of a CSV document from one on, where there are any
-abbrev pub rest_given : CsvDoc → ℕ → Open
-rest_given d first = cond (nat_lt first (length (rows_of d))) (hole (hole_of (RowsFrom first)) nil) nil
+-- whether a CSV document has rows from an index on
+abbrev pub has_more : CsvDoc → ℕ → Bool
+has_more d first = nat_lt first (length (rows_of d))
 
 -- the list that answers a part's fill: the name, above a hole for all rows; or the next rows, at most a chunk, and a hole after them where more remain
 abbrev pub part_given : CsvDoc → Option Part → Open
 part_given d None = nil
-part_given d (Some Name) = node d.name (hole (hole_of (RowsFrom 0)) nil) nil
+part_given d (Some Name) = name_given d.name (hole_of (RowsFrom 0))
 part_given d (Some (RowsFrom first)) =
-    open_followed (without_holes (row_forest (columns_of d) (take d.chunk (drop first (rows_of d))))) (rest_given d (first + d.chunk))
+    rows_given (cells (columns_of d)) (take d.chunk (drop first (rows_of d))) (has_more d (first + d.chunk)) (hole_of (RowsFrom (first + d.chunk)))
 
 -- whether a CSV document knows a hole
 abbrev pub knows : CsvDoc → HoleId → Bool

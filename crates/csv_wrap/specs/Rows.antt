@@ -1,6 +1,7 @@
 -- The document of a CSV file: the source's name, below it the rows, and below each row its columns, each with its field below it.
-use Rattle.std.specs.Prelude.{ℕ, List, [], ◌∷◌, map}
-use Rattle.mix_tree.specs.Forest.{Forest, none, tree, LabelledTree, forest_of}
+use Rattle.std.specs.Prelude.{ℕ, List, [], ◌∷◌}
+use Rattle.mix_tree.specs.Forest.{Forest, none, tree, LabelledTree}
+use Rattle.row_document.specs.Rows as rows
 
 -- the tree of a column of a row: its name, and the field below it
 abbrev pub cell : List ℕ → List ℕ → LabelledTree
@@ -12,14 +13,10 @@ cells [] fields = []
 cells (c ∷ cs) [] = []
 cells (c ∷ cs) (f ∷ fs) = cell c f ∷ cells cs fs
 
--- the tree of a CSV file's row, which is called "row"
-abbrev pub row_tree : List (List ℕ) → List (List ℕ) → LabelledTree
-row_tree columns fields = record { label = 114 ∷ 111 ∷ 119 ∷ []; kids = forest_of (cells columns fields) }
-
 -- the trees of a CSV file's rows, one after another
 abbrev pub row_forest : List (List ℕ) → List (List (List ℕ)) → Forest
-row_forest columns rows = forest_of (map (row_tree columns) rows)
+row_forest columns all = rows.row_forest (cells columns) all
 
 -- the tree of a CSV file: the source's name, and the rows under given columns below it
 abbrev pub file_tree : List ℕ → List (List ℕ) → List (List (List ℕ)) → LabelledTree
-file_tree name columns rows = record { label = name; kids = row_forest columns rows }
+file_tree name columns all = rows.rows_tree name (cells columns) all

@@ -6,22 +6,14 @@ ghost use Rattle.lxp_core.specs.Open.{Open, nil, node, without_holes};
 ghost use Rattle.lxp_core.specs.Plain.{plain, put_all};
 ghost use Rattle.csv_wrap.specs.Parts.{part_of};
 ghost use Rattle.csv_wrap.specs.Rows.{cells};
-ghost use Rattle.csv_wrap.specs.Document.{columns_of, rows_of, knows, has_part, part_given, rest_given};
+ghost use Rattle.csv_wrap.specs.Document.{columns_of, rows_of, knows, has_part, part_given};
 
 use crate::CsvDoc;
 use crate::parts::Part;
 use lxp_core::{HoleId, OpenTree};
 use mix_tree::Label;
+use row_document::{name_list, push_node, push_rest, push_row};
 use std::alloc::{AllocError, Global};
-
-// Puts a node at the end of a list of trees, above a list of its own.
-fn push_node(list: &mut Vec<OpenTree>, label: Label, kids: Vec<OpenTree>) -> Result<(), AllocError>
-    ensures { OnOk result ((rest : Open) → put_all list.new.items rest
-        ≡ put_all list.old.items (node label (plain kids.items) rest)) }
-{
-    list.push(OpenTree::Node { label, kids })?;
-    Ok(())
-}
 
 // Puts a column of a row at the end of a list of trees, with its field below it.
 fn push_cell(
@@ -72,17 +64,6 @@ impl CsvDoc {
         Ok(list)
     }
 
-    // The list of the whole document: the source's name, above a hole for all rows.
-    fn give_name(&self, alloc: Global) -> Result<Vec<OpenTree>, AllocError>
-        ensures { IfOk result (λ list. plain list.items ≡ part_given self.now (Some Part.Name)) }
-    {
-        let mut kids = Vec::new(alloc);
-        kids.push(OpenTree::Hole(Part::RowsFrom(0).hole()))?;
-        let mut list = Vec::new(alloc);
-        push_node(&mut list, self.name.copy(alloc)?, kids)?;
-        Ok(list)
-    }
-
     // The index where a chunk of rows ends that begins with a given one.
     fn chunk_end(&self, first: usize) -> usize
         requires { first ≤ self.now.table.rows }
@@ -97,17 +78,6 @@ impl CsvDoc {
         }
     }
 
-    // Puts a hole for the rows from one on at the end of a list, where there are any.
-    fn push_rest(&self, list: &mut Vec<OpenTree>, first: usize) -> Result<(), AllocError>
-        ensures { OnOk result (plain list.new.items ≡ put_all list.old.items (rest_given self.now first)) }
-    {
-        if first >= self.table.rows {
-            return Ok(());
-        }
-        list.push(OpenTree::Hole(Part::RowsFrom(first).hole()))?;
-        Ok(())
-    }
-
     // The list of the rows from one on: at most a chunk of them, each whole, and a hole after them where more remain.
     fn give_rows(&self, alloc: Global, first: usize) -> Result<Vec<OpenTree>, AllocError>
         requires { first ≤ self.now.table.rows }
@@ -117,10 +87,13 @@ impl CsvDoc {
         // A hole after the rows takes the place of one more.
         let mut list = Vec::with_capacity(alloc, last - first + 1)?;
         'rows: for row in first..last {
-            let label = Label::of_text(alloc, b"row")?;
-            push_node(&mut list, label, self.cells(alloc, row)?)?;
+            push_row(alloc, &mut list, self.cells(alloc, row)?)?;
         }
-        self.push_rest(&mut list, last)?;
+        push_rest(
+            &mut list,
+            last < self.table.rows,
+            Part::RowsFrom(last).hole(),
+        )?;
         Ok(list)
     }
 
@@ -151,7 +124,7 @@ impl CsvDoc {
         ensures { IfOk result (λ list. plain list.items ≡ part_given self.now (Some part)) }
     {
         match part {
-            Part::Name => self.give_name(alloc),
+            Part::Name => name_list(alloc, &self.name, Part::RowsFrom(0).hole()),
             Part::RowsFrom(first) => self.give_rows(alloc, first),
         }
     }

@@ -1,7 +1,10 @@
-use Rattle.std.proofs.Common.{◌≡◌, ◌∙◌, ◌+◌, ◌≤◌, ◌∷◌, [], length, min, ap, sym, arith}
+use Rattle.std.proofs.Common.{◌≡◌, ◌∙◌, ◌+◌, ◌≤◌, ◌∷◌, [], length, min, nat_lt, ap, sym, arith}
 use Rattle.lxp_core.specs.Open.{node}
-use Rattle.lxp_core.specs.Plain.{plain, put_all}
-use Rattle.csv_wrap.specs.Document.{columns_of, rest_given, rows_of}
+use Rattle.lxp_core.specs.Plain.{put_all}
+use Rattle.row_document.specs.Rows.{rest_given}
+use Rattle.csv_wrap.specs.declared.parts.Part.TheVariants.{RowsFrom}
+use Rattle.csv_wrap.specs.Parts.{hole_of}
+use Rattle.csv_wrap.specs.Document.{columns_of, has_more, rows_of}
 use Rattle.csv_wrap.proofs.Given.{rest_same}
 use Rattle.csv_wrap.proofs.RowFacts.{length-cut}
 use Rattle.csv_wrap.proofs.Shown.{rows_chunk, rows_end, rows_step, shown_rows}
@@ -18,8 +21,7 @@ rows-preserved c = λ rest.
     let tail = shown_rows columns rows (row + 1) last rest in
     let count = length-cut (length d.columns.items) d.table.rows d.table.fields in
     let within : c.chunk_end-last.result ≤ length (rows_of c.args.self.now) = omega (arith, c.chunk_end-last.ensures, count) in
-    c.in_ok-push_node.ensures tail
-    ∙ ap (λ label. put_all old (node label (plain c.in_ok-cells.field-0.items) tail)) c.in_ok-label.ensures
+    c.in_ok-push_row.ensures tail
     ∙ ap (λ kids. put_all old (node (114 ∷ 111 ∷ 119 ∷ []) kids tail)) c.in_ok-cells.ensures
     ∙ ap (put_all old) (sym (rows_step columns rows row last rest c.rows-test.true within))
     ∙ c.rows.invariant rest
@@ -32,12 +34,14 @@ returns c =
     let list = c.rows.list.items in
     let first = c.args.first in
     let last = c.chunk_end-last.result in
-    let rest = rest_given d (first + d.chunk) in
+    let rest = rest_given (has_more d (first + d.chunk)) (hole_of (RowsFrom (first + d.chunk))) in
     let count = length-cut (length d.columns.items) d.table.rows d.table.fields in
     let inside : c.args.first ≤ length (rows_of c.args.self.now) = omega (arith, c.requires, count) in
     let end : c.chunk_end-last.result ≡ min (c.args.first + c.args.self.now.chunk) (length (rows_of c.args.self.now)) = c.chunk_end-last.ensures ∙ ap (min (first + d.chunk)) (sym count) in
     let past : c.chunk_end-last.result ≤ c.rows.row = omega (arith, c.rows-test.false) in
     c.in_ok-push_rest.ensures
+    ∙ ap (λ id. put_all list (rest_given (nat_lt last d.table.rows) id)) c.hole.ensures
+    ∙ ap (λ count. put_all list (rest_given (nat_lt last count) (hole_of (RowsFrom last)))) (sym count)
     ∙ ap (put_all list) (rest_same d last (first + d.chunk) end)
     ∙ ap (put_all list) (sym (rows_end columns rows c.rows.row last rest past))
     ∙ c.rows.invariant rest

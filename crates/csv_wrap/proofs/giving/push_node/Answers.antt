@@ -1,7 +1,0 @@
-use Rattle.std.proofs.Common.{ap, ◌∙◌}
-use Rattle.lxp_core.specs.Plain.{put_all}
-use Rattle.lxp_core.proofs.Plains.{put_all-push_node}
-use Rattle.csv_wrap.proofs.giving.push_node.Goals as goal
-
-pub returns : goal.returns
-returns c = λ rest. ap (λ ts. put_all ts rest) c.in_ok-push.ensures.items ∙ put_all-push_node c.args.list.now.items c.args.label c.args.kids rest
