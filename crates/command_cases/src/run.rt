@@ -4,7 +4,7 @@ use crate::schemas::schemas_of;
 use crate::setting::{Twist, failing, files_of, own_words, streams_of};
 use case_text::{Fault, Part, differing_line, differing_number, part_of, tables_of};
 use far_keep::MemFars;
-use mix_call::{mixq_over, mixq_serve_over};
+use mix_top::{mixq_over, mixq_serve_over};
 use mix_describe::mixq_describe;
 use mix_explain::mixq_explain;
 use mix_io::{MemFiles, MemInput, MemSink, Streams};

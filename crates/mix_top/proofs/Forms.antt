@@ -1,29 +1,40 @@
 -- The courses of the commands that differ in the form of what is written alone.
-use Rattle.std.proofs.Common.{◌≡◌, ◌⊎◌, inl, inr, ℕ, true, List, Result, OnOk, IfOk, IfErr, refl, sym, subst}
+use Rattle.std.proofs.Common.{◌≡◌, inl, inr, ℕ, true, List, Result, OnOk, IfOk, IfErr, refl, sym, subst, Ok, Err}
 use Rattle.mix_io.specs.Views.{FilesView, SinkView}
 use Rattle.mix_top.specs.Commands.{Command, asks_stores}
-use Rattle.mix_top.specs.Course.{IsCourse, Runs}
-use Rattle.mix_top.specs.FilesRead.{MayRead, RunMayRead}
-use Rattle.mix_top.specs.Outside.{Outside}
-use Rattle.mix_top.specs.Running.{given_by, run_lines}
-use Rattle.mix_top.specs.Stops.{IsDone, IsDoneAs, IsStop, IsStopFrom, unmarked_end}
+use Rattle.mix_top.specs.Course.{IsCourse}
+use Rattle.mix_run.specs.Runs.{Runs}
+use Rattle.mix_top.specs.FilesRead.{MayRead}
+use Rattle.mix_run.specs.FilesRead.{RunMayRead}
+use Rattle.mix_run.specs.Outside.{Outside}
+use Rattle.mix_run.specs.Running.{given_by, run_lines}
+use Rattle.mix_run.specs.Stops.{IsDone, IsDoneAs, IsStop, IsStopFrom}
+use Rattle.mix_top.specs.Stops.{unmarked_end}
 use Rattle.mix_top.specs.Words.{run_command}
-use Rattle.mix_top.specs.declared.outcome.Outcome.{Outcome}
+use Rattle.mix_run.specs.declared.outcome.Outcome.{Outcome}
 use Rattle.mix_place.specs.declared.refusal.Stop.{Stop}
-use Rattle.mix_top.specs.declared.running.RunForm.{RunForm}
-use Rattle.mix_top.specs.declared.running.RunForm.TheVariants.{Answers, Counts, Executed, Looped}
-use Rattle.mix_top.proofs.RunCourse.{unmarked_done, unmarked_stopped}
+use Rattle.mix_run.specs.declared.running.RunForm.{RunForm}
+use Rattle.mix_run.specs.declared.running.RunForm.TheVariants.{Answers, Counts, Executed, Looped}
+use Rattle.mix_place.specs.declared.refusal.Stop.TheVariants.{Refused, SinkFailed, OutOfMemory}
 
--- what is so of two forms is so of a form that is one of them
-pub of_either : (P : RunForm → Type 0) (form one other : RunForm) → (form ≡ one) ⊎ (form ≡ other) → P one → P other → P form
-of_either P form one other (inl e) a b = subst P (sym e) a
-of_either P form one other (inr e) a b = subst P (sym e) b
+module _ (Course : ℕ → List ℕ → Type 0) (before after : SinkView) where
+  -- where a command without fault lines ended well, it was done
+  pub unmarked_done : (r : Result (Unit {0}) Stop) → OnOk r (IsDone Course before after) → IfOk (unmarked_end r) (IsDoneAs Course before after)
+  unmarked_done (Ok done) h = h
+  unmarked_done (Err stop) h = tt
 
--- what is so of the three forms of a run of a view is so of a form that is one of them
-pub of_views : (P : RunForm → Type 0) (form : RunForm) → (form ≡ Answers) ⊎ ((form ≡ Counts) ⊎ (form ≡ Looped)) → P Answers → P Counts → P Looped → P form
-of_views P form (inl e) a b c = subst P (sym e) a
-of_views P form (inr (inl e)) a b c = subst P (sym e) b
-of_views P form (inr (inr e)) a b c = subst P (sym e) c
+  module _ (Unbegun : Type 0) (unbegun : Unbegun) where
+    -- where a command was stopped that asks nothing of stores, what is so in any case was so before any line
+    stop_from : (stop : Stop) → IsStop Course before after stop → IsStopFrom Unbegun Course before after stop
+    stop_from (Refused r) h = h
+    stop_from SinkFailed h = h
+    stop_from OutOfMemory (inl h) = inl (unbegun, h.1)
+    stop_from OutOfMemory (inr h) = inr h
+
+    -- where a command without fault lines was stopped, its end is a stop of its course
+    pub unmarked_stopped : (r : Result (Unit {0}) Stop) → IfErr r (IsStop Course before after) → IfErr (unmarked_end r) (IsStopFrom Unbegun Course before after)
+    unmarked_stopped (Ok done) h = tt
+    unmarked_stopped (Err stop) h = stop_from stop h
 
 -- what is so of the course of a run is so of its command's, in each form
 pub run_course : (P : (ℕ → List ℕ → Type 0) → Type 0) (before after : Outside) (s0 s1 : SinkView) (form : RunForm) (file catalog script : List ℕ)

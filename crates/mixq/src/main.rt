@@ -5,7 +5,7 @@
 use far_links::FarLinks;
 use file_dial::FileDial;
 use file_link::FileLink;
-use mix_call::{mixq_over, mixq_serve_over};
+use mix_top::{mixq_over, mixq_serve_over};
 use mix_describe::mixq_describe;
 use mix_explain::mixq_explain;
 use mix_io::{OsFiles, StdInput, StdSink, Streams};

@@ -3,12 +3,12 @@ use Rattle.std.specs.Prelude.{map, string_bytes}
 use Rattle.mix_top.specs.Commands.{command_of}
 use Rattle.mix_top.specs.Course.{IsCourse}
 use Rattle.mix_reach.specs.Stores.{stores_in}
-use Rattle.mix_top.specs.Outside.{outside}
-use Rattle.mix_top.specs.Stops.{IsStopFrom}
-use Rattle.mix_top.specs.declared.outcome.Outcome.{Outcome}
+use Rattle.mix_run.specs.Outside.{outside}
+use Rattle.mix_run.specs.Stops.{IsStopFrom}
+use Rattle.mix_run.specs.declared.outcome.Outcome.{Outcome}
 use Rattle.mix_place.specs.declared.refusal.Stop.{Stop}
 use Rattle.mix_place.specs.declared.refusal.Stop.TheVariants.{Refused}
-use Rattle.mix_top.proofs.Further.{refused_ends}
+use Rattle.mix_top.proofs.Refusals.{refused_ends}
 use Rattle.mix_top.proofs.top.run_words.Goals as goal
 
 pub returns-in-Err-Refused-clause-ends : goal.returns-in-Err-Refused-clause-ends
