@@ -13,8 +13,8 @@ use mix_io::{Files, Input, Sink, Streams};
 use mix_mount::{Mount, Mounted};
 use mix_place::{Stop, load_base, mount_all, read_all_sites};
 use mix_reach::{Reached, Site, Stores};
-use mix_serve::{ServeFault, Served, serve_requests};
 use mix_run::refuse;
+use mix_serve::{ServeFault, Served, serve_requests};
 use std::alloc::Global;
 use table_keep::Tables;
 
