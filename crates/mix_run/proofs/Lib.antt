@@ -22,6 +22,8 @@ pub mod Readying
 pub mod RunCourse
 pub mod SourceFaults
 pub mod Stacked
+pub mod StackedDocuments
+pub mod StackedViews
 pub mod StoodFor
 pub mod Sums
 pub mod TalkEnding

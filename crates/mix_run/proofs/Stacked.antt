@@ -1,33 +1,26 @@
 -- What a stack of views over sources is to what is asked of a run, where the sources stand in for others that are reached.
-use Rattle.std.proofs.Common.{◌≡◌, ◌∙◌, ◌+◌, ◌-◌, ◌*◌, ◌^◌, ◌<◌, ◌≤◌, inl, inr, min, ℕ, zero, suc, Bool, true, false, ◌&&◌, cond, nat_lt, List, [], ◌∷◌, Option, Some, None, refl, ap, sym, subst, arith, length, option_map, slice_get, get_or}
+use Rattle.std.proofs.Common.{◌≡◌, ◌∙◌, ◌+◌, ◌-◌, ◌*◌, ◌^◌, ◌<◌, ◌≤◌, inl, inr, min, ℕ, Bool, true, false, ◌&&◌, cond, List, Option, Some, None, refl, ap, sym, subst, arith, length, option_map, slice_get, get_or}
 use Rattle.std.specs.List.{AllByRecursion, list_all, list_any}
 use Rattle.std.proofs.Math.Path.{fun_ext}
 use Rattle.std.proofs.lemmas.Bool.{cases_lt, or_left, or_right}
-use Rattle.std.proofs.lemmas.Bool.Decides.{nat_tests}
-use Rattle.std.proofs.lemmas.List.{get_or_past, length-map}
-use Rattle.std.proofs.Math.Nat.{mul-le-mul_left, mul_comm}
-use Rattle.std.proofs.lemmas.Option.{same_Some, slice_get_cases, slice_get_within}
+use Rattle.std.proofs.lemmas.List.{length-map}
+use Rattle.std.proofs.lemmas.Option.{slice_get_cases, slice_get_within}
 use Rattle.mix_base.specs.Counts.{HasRisenBy}
 use Rattle.mix_io.specs.Views.{FilesView}
-use Rattle.mix_tree.specs.Forest.{Forest, none}
 use Rattle.mix_tree.specs.Nodes.{Documents}
-use Rattle.mix_catalog.specs.declared.source.SourceKind.{SourceKind}
-use Rattle.mix_catalog.specs.declared.source.SourceKind.TheVariants.{Bracket, Csv, Table, Remote, Json, View as ViewFile}
 use Rattle.mix_catalog.specs.declared.source.SourceSpec.{SourceSpec}
-use Rattle.mix_catalog.specs.Grammar.{is_view}
 use Rattle.mix_catalog.specs.Sources.{base_of}
-use Rattle.lxp_core.specs.View.{Keeps, document as given}
+use Rattle.lxp_core.specs.View.{Keeps}
 use Rattle.far_keep.specs.declared.far_source.FarSource.{FarSource}
 use Rattle.mix_loop.specs.Loops.{StandIn}
 use Rattle.mix_reach.specs.Reach.{Reaching, came_keeps, view_of as reached}
 use Rattle.mix_reach.specs.Stores.{stores_of}
-use Rattle.mix_place.specs.Documents.{far_in, is_file_of}
+use Rattle.mix_place.specs.Documents.{is_file_of}
 use Rattle.mix_place.specs.Placed.{ArePlaced, IsViewPlaced, view_number}
 use Rattle.mix_place.specs.Views.{IsLower, lower_at, lower_of, needs, reads_lower, view_ops}
 use Rattle.mix_place.proofs.Bases.{base_there}
-use Rattle.mix_place.proofs.SourceKinds.{each_is_one, far_is_apart, file_is_apart, table_is_apart, view_is_apart}
+use Rattle.mix_place.proofs.SourceKinds.{each_is_one, far_is_apart, file_is_apart, table_is_apart}
 use Rattle.table_keep.specs.Views.{Declared}
-use Rattle.table_wrap.specs.Document.{declared_in}
 use Rattle.plan_core.specs.declared.plan.Plan.{Plan}
 use Rattle.plan_core.specs.PlanMade.{plan_value}
 use Rattle.plan_core.specs.Plans.{Operator, document}
@@ -44,70 +37,20 @@ use Rattle.lazy_value.specs.Named.{state_of}
 use Rattle.mix_script.specs.Transcript.{Finished}
 use Rattle.mix_script.specs.declared.step.Step.{Step}
 use Rattle.view_class.specs.Reads.{reads_source}
-use Rattle.view_stack.specs.Stacks.{Stacking, faults, forest, is_forward, is_told as view_told, names, plans_of, sum_below, tree_alone, view_at, view_of}
-use Rattle.view_stack.specs.Parts.{hole_of}
-use Rattle.view_stack.specs.declared.part.Part.TheVariants.{Whole}
+use Rattle.view_stack.specs.Stacks.{Stacking, faults, is_forward, is_told as view_told, names, plans_of, sum_below, view_at, view_of}
 use Rattle.xmas_read.specs.Results.{names_of_sources}
-use Rattle.view_stack.specs.Steps.{AreOpen, AsksEach, Bounds, CostsAtMost, documents_of as given_documents}
+use Rattle.view_stack.specs.Steps.{AreOpen, AsksEach, Bounds, CostsAtMost}
 use Rattle.mix_run.specs.Answered.{IsFar, IsTable, MayFail, far_faults, faults_below, is_told, spec_faults, table_faults}
 use Rattle.mix_run.specs.Question.{AreCheap, IsPlanDocument, Question}
-use Rattle.mix_run.specs.Running.{all_documents, documents_of, lower_document, placed_of, question_of}
-use Rattle.mix_run.proofs.Answering.{IsOver, documents_told}
+use Rattle.mix_run.specs.Running.{all_documents, placed_of, question_of}
+use Rattle.mix_run.proofs.Answering.{IsOver}
 use Rattle.mix_run.proofs.Mounts.{read_there}
 use Rattle.mix_run.proofs.Places.{less_is, more_is, ops_at}
 use Rattle.mix_run.proofs.ReadTables.{all_pass, is_read, plan_within, read_below}
 use Rattle.mix_run.proofs.SourceFaults.{spec_failed}
 use Rattle.mix_run.proofs.Sums.{RoseAtLeast, names_read, rose_at_least, stopped_rose, sums_rose}
-
--- the operators of a walk's plan, where there is a walk
-abbrev walk_ops : Option Walk → Option (List Operator)
-walk_ops view = view_ops (option_map plan_of view)
-
--- the operators of the plans of views, by their places
-lower_is : (views : List (Option Walk)) (i : ℕ) → lower_at (lower_of (plans_of views)) i ≡ walk_ops (view_at views i)
-lower_is [] zero = refl
-lower_is [] (suc i) = refl
-lower_is (view ∷ views) zero = refl
-lower_is (view ∷ views) (suc i) = lower_is views i
-
--- a view that is mounted is one of the views
-inside : (views : List (Option Walk)) (i : ℕ) (m : Walk) → view_at views i ≡ Some m → i < length views
-inside [] zero m e = absurd (let z : None ≡ Some m = e in cc)
-inside [] (suc i) m e = absurd (let z : None ≡ Some m = e in cc)
-inside (view ∷ views) zero m e = omega arith
-inside (view ∷ views) (suc i) m e = (let h = inside views i m e in omega (arith, h))
-
--- a walk's plan has operators, and no other view has
-some_ops : (view : Option Walk) (ops : List Operator) → walk_ops view ≡ Some ops → (m : Walk) × (view ≡ Some m) × ((plan_value (plan_of m)).ops ≡ ops)
-some_ops None ops e = absurd (let z : None ≡ Some ops = e in cc)
-some_ops (Some m) ops e = (m, refl, same_Some (plan_value (plan_of m)).ops ops e)
-
--- a declared table is no view
-table_no_view : (kind : SourceKind) (d : Declared) → declared_in kind ≡ Some d → is_view kind ≡ false
-table_no_view kind d e =
-    (elim (is_view kind) as (λ b. is_view kind ≡ b → b ≡ false) [ false ↦ λ own. refl | true ↦ λ own. absurd (let z : None ≡ Some d = sym (view_is_apart kind own).0 ∙ e in cc) ]) refl
-
--- a source of another machine is no view
-far_no_view : (kind : SourceKind) (far : FarSource) → far_in kind ≡ Some far → is_view kind ≡ false
-far_no_view kind far e =
-    (elim (is_view kind) as (λ b. is_view kind ≡ b → b ≡ false) [ false ↦ λ own. refl | true ↦ λ own. absurd (let z : None ≡ Some far = sym (view_is_apart kind own).1 ∙ e in cc) ]) refl
-
--- a file that is read whole is no view
-file_no_view : (kind : SourceKind) → is_file_of kind ≡ true → is_view kind ≡ false
-file_no_view (Bracket file deep) h = refl
-file_no_view (Csv file columns) h = refl
-file_no_view (Table file table key columns) h = refl
-file_no_view (Remote replies requests number) h = refl
-file_no_view (Json file) h = refl
-file_no_view (ViewFile file) h = absurd (let z : false ≡ true = h in cc)
-
--- what is at most so many times a number is at most so many times any that is no less
-asked_by : (b fills asked most : ℕ) → b ≤ most * fills → fills ≤ asked → b ≤ most * asked
-asked_by b fills asked most h less = (let l = mul-le-mul_left most less in omega (arith, h, l))
-
--- a number is no more than a multiple of itself
-own_multiple : (most asked : ℕ) → 1 ≤ most → asked ≤ most * asked
-own_multiple most asked one = (let l = mul-le-mul_left asked one in let c = mul_comm asked most in omega (arith, l, c))
+use Rattle.mix_run.proofs.StackedDocuments.{documents_all, documents_below}
+use Rattle.mix_run.proofs.StackedViews.{any_at, asked_by, far_no_view, file_no_view, lower_is, own_multiple, plan_at, plan_inside, some_ops, table_no_view, walk_ops}
 
 module _ (files : FilesView) (a b : Reaching) (k k' : Stacking) (sources : List SourceSpec) (ops : List Operator) (place : ArePlaced files ops sources (placed_of a (plans_of k.views)))
     (within : AllByRecursion (HasSource (length sources)) ops) (keeps : Keeps k.base k'.base) (stand : StandIn k.base k'.base a b) (plans : plans_of k'.views ≡ plans_of k.views) where
@@ -123,10 +66,6 @@ module _ (files : FilesView) (a b : Reaching) (k k' : Stacking) (sources : List 
   abbrev base : List SourceSpec
   base = base_of sources
 
-  -- the documents of the sources that are no views
-  abbrev D : Documents
-  D = documents_of (stores_of a) (placed_of a views)
-
   -- there are as many sources below as no views
   counted : k.base.count ≡ length base
   counted = stand.tells.count ∙ place.mounted.count
@@ -138,88 +77,7 @@ module _ (files : FilesView) (a b : Reaching) (k k' : Stacking) (sources : List 
   still : (i : ℕ) → walk_ops (view_at k'.views i) ≡ walk_ops (view_at k.views i)
   still i = sym (lower_is k'.views i) ∙ ap (λ (p : List (Option Plan)). lower_at (lower_of p) i) plans ∙ lower_is k.views i
 
-  -- THE DOCUMENTS
-
-  -- the documents below are those of the sources that are no views
-  documents_below : given_documents k.base ≡ D
-  documents_below = fun_ext (λ s. documents_told k.base a views stand.tells s)
-
-  -- the document of a view over the sources below
-  abbrev by_view : Option Walk → Forest
-  by_view None = none
-  by_view (Some m) = tree_alone (document (visited (given_documents k.base)) (plan_value (plan_of m)).ops)
-
-  -- the document of a view of the stack is that of its plan over the sources below
-  view_is : (r : Option Walk) → forest k.base k.served r (hole_of Whole) ≡ by_view r
-  view_is None = refl
-  view_is (Some m) = refl
-
-  -- the document of a view over the sources below is that of its operators over the sources that are no views
-  by_lower : (r : Option Walk) → by_view r ≡ lower_document D (walk_ops r)
-  by_lower None = refl
-  by_lower (Some m) = ap (λ (d : Documents). tree_alone (document (visited d) (plan_value (plan_of m)).ops)) documents_below
-
-  -- of no view there is no document, whatever is tested
-  or_none : (r : Option Walk) (t : Bool) → (t ≡ false → r ≡ None) → cond t (by_view r) none ≡ by_view r
-  or_none r true h = refl
-  or_none r false h = ap by_view (sym (h refl))
-
-  -- the stack has the documents of all sources
-  documents_all : (s : ℕ) → cond (nat_lt s (view_of k).count) (given (view_of k) s) none ≡ all_documents (stores_of a) (placed_of a views) s
-  documents_all s =
-      elim (cases_lt s k.base.count) as (λ _. cond (nat_lt s (view_of k).count) (given (view_of k) s) none ≡ all_documents (stores_of a) (placed_of a views) s) [
-        | inl low ↦ (
-            let c = stand.tells.count in
-            let test = less_is s k.base.count low in
-            let one : nat_lt s (view_of k).count ≡ true = less_is s (view_of k).count (omega (arith, low)) in
-            let other : nat_lt s (length a.mounted.docs) ≡ true = less_is s (length a.mounted.docs) (omega (arith, low, c)) in
-            ap (λ t. cond t (given (view_of k) s) none) one
-            ∙ ap (λ t. cond t (k.base.forest s) (forest k.base k.served (view_at k.views (s - k.base.count))) (cond t (k.base.root s) (hole_of Whole))) test
-            ∙ sym (ap (λ t. cond t (given k.base s) none) test)
-            ∙ documents_told k.base a views stand.tells s
-            ∙ sym (ap (λ t. cond t (D s) (lower_document D (lower_at lower (s - length a.mounted.docs)))) other)
-            )
-        | inr high ↦ (
-            let c = stand.tells.count in
-            let i : ℕ = s - k.base.count in
-            let test = more_is s k.base.count high in
-            let other : nat_lt s (length a.mounted.docs) ≡ false = more_is s (length a.mounted.docs) (omega (arith, high, c)) in
-            let r = view_at k.views i in
-            ap (λ t. cond (nat_lt s (view_of k).count) (cond t (k.base.forest s) (forest k.base k.served r) (cond t (k.base.root s) (hole_of Whole))) none) test
-            ∙ ap (λ f. cond (nat_lt s (view_of k).count) f none) (view_is r)
-            ∙ or_none r (nat_lt s (view_of k).count) (past s high)
-            ∙ by_lower r
-            ∙ ap (lower_document D) (sym (lower_is k.views i))
-            ∙ ap (λ n. lower_document D (lower_at lower (s - n))) c
-            ∙ sym (ap (λ t. cond t (D s) (lower_document D (lower_at lower (s - length a.mounted.docs)))) other)
-            )
-      ]
-    where
-      past : (s : ℕ) → k.base.count ≤ s → nat_lt s (view_of k).count ≡ false → view_at k.views (s - k.base.count) ≡ None
-      past s high unset = get_or_past k.views (s - k.base.count) None (grind (arith, nat_tests, unset, high))
-
   -- WHAT IS READ
-
-  -- the plan of a view, by its place
-  plan_at : (vs : List (Option Walk)) (i : ℕ) → get_or (plans_of vs) i None ≡ option_map plan_of (view_at vs i)
-  plan_at [] zero = refl
-  plan_at [] (suc i) = refl
-  plan_at (v ∷ vs) zero = refl
-  plan_at (v ∷ vs) (suc i) = plan_at vs i
-
-  -- a plan at a place is one of the plans
-  plan_inside : (ps : List (Option Plan)) (i : ℕ) (p : Plan) → get_or ps i None ≡ Some p → i < length ps
-  plan_inside [] zero p e = absurd (let z : None ≡ Some p = e in cc)
-  plan_inside [] (suc i) p e = absurd (let z : None ≡ Some p = e in cc)
-  plan_inside (q ∷ ps) zero p e = omega arith
-  plan_inside (q ∷ ps) (suc i) p e = (let h = plan_inside ps i p e in omega (arith, h))
-
-  -- a view at a place reads a source, so one of the views does
-  any_at : (s : ℕ) (vs : List (Option (List Operator))) (i : ℕ) (o : List Operator) → lower_at vs i ≡ Some o → reads_source o s ≡ true → list_any (reads_lower s) vs ≡ true
-  any_at s [] zero o e read = absurd (let z : None ≡ Some o = e in cc)
-  any_at s [] (suc i) o e read = absurd (let z : None ≡ Some o = e in cc)
-  any_at s (v ∷ vs) zero o e read = or_left (reads_lower s v) (list_any (reads_lower s) vs) (subst (λ (x : Option (List Operator)). reads_lower s x ≡ true) (sym e) read)
-  any_at s (v ∷ vs) (suc i) o e read = or_right (reads_lower s v) (list_any (reads_lower s) vs) (any_at s vs i o e read)
 
   -- there are as many views as sources after those that are no views
   all_views : length base + length views ≡ length sources
@@ -444,7 +302,7 @@ module _ (files : FilesView) (a b : Reaching) (k k' : Stacking) (sources : List 
       bounds : (most : ℕ) → AreCheap q most → Bounds k.base views most
       bounds most cheap = record {
         one = cheap.one;
-        steps = λ i p e. subst (λ (d : Documents). CostsAtMost d (plan_value p).ops most) (sym documents_below) (cheap.steps i (plan_value p).ops (ops_at views i ∙ ap view_ops e));
+        steps = λ i p e. subst (λ (d : Documents). CostsAtMost d (plan_value p).ops most) (sym (documents_below a k stand.tells)) (cheap.steps i (plan_value p).ops (ops_at views i ∙ ap view_ops e));
       }
 
       -- where all is told, so many fills of the stack ask at most as many of what is reached as a step of a view costs, for each
@@ -470,7 +328,7 @@ module _ (files : FilesView) (a b : Reaching) (k k' : Stacking) (sources : List 
       -- the stack is to what is asked what sources have to be that are walked
       pub over : (m : Mediator) → ops_of (state_of (view_of k) m) ≡ ops → IsPlanDocument (all_documents (stores_of a) (placed_of a views)) ops f.tree → IsOver (view_of k) (view_of k') (state_of (view_of k) m) a b q
       over m is document_is =
-          let docs : documents (state_of (view_of k) m) ≡ all_documents (stores_of a) (placed_of a views) = fun_ext documents_all in
+          let docs : documents (state_of (view_of k) m) ≡ all_documents (stores_of a) (placed_of a views) = fun_ext (documents_all a k stand.tells) in
           record {
             ops = is;
             docs = docs;
