@@ -4,9 +4,11 @@ use Rattle.mix_tree.specs.Forest.{LabelledTree}
 use Rattle.bracket_text.specs.Stands.{SpellsTree}
 use Rattle.mix_io.specs.Views.{FilesView}
 use Rattle.mix_catalog.specs.declared.source.SourceSpec.{SourceSpec}
-use Rattle.mix_top.specs.Commands.{Command, help, version, walk, read, plan, check, run, count, exec, loop, load, unknown}
+use Rattle.mix_top.specs.Commands.{Command, help, version, walk, read, plan, check, run, count, exec, loop, talk, load, unknown}
 use Rattle.mix_place.specs.Files.{IsCatalogFile}
+use Rattle.mix_run.specs.FilesRead.{MayReadAfter, RunMayRead}
 use Rattle.mix_run.specs.Runs.{PlanFile, by_text, by_view}
+use Rattle.mix_run.specs.Talks.{TalkMayRead}
 use Rattle.mix_place.specs.Documents.{IsDocument}
 use Rattle.mix_place.specs.Placed.{ViewsMayRead}
 
@@ -34,5 +36,6 @@ MayRead files (run view catalog script) path = RunMayRead by_view files view cat
 MayRead files (count view catalog script) path = RunMayRead by_view files view catalog script path
 MayRead files (exec text catalog script) path = RunMayRead by_text files text catalog script path
 MayRead files (loop view catalog script) path = RunMayRead by_view files view catalog script path
+MayRead files (talk view catalog) path = TalkMayRead files view catalog path
 MayRead files (load people) path = ⊥
 MayRead files unknown path = ⊥

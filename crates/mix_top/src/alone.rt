@@ -7,11 +7,12 @@ ghost use Rattle.mix_top.specs.Commands.{asks_stores, command_of};
 ghost use Rattle.mix_place.specs.Reading.{ReadsAmong};
 ghost use Rattle.mix_run.specs.Outside.{outside};
 ghost use Rattle.mix_top.specs.Alone.{tables_alone};
-ghost use Rattle.mix_top.specs.Call.{WordsEnd, talk_of, WordsMayRead};
+ghost use Rattle.mix_top.specs.Call.{CommandEnds};
+ghost use Rattle.mix_top.specs.FilesRead.{MayRead};
 ghost use Rattle.mix_top.specs.Served.{ServeWordsEnd, ServeWordsMayRead, catalog_of};
 
-use crate::call::mixq_over;
 use crate::serving::mixq_serve_over;
+use crate::top::mixq_over;
 use far_keep::NoFars;
 use mix_io::{Files, Input, Sink, Streams};
 use mix_reach::Stores;
@@ -28,18 +29,17 @@ pub fn mixq<F: Files, T: Tables, I: Input, K: Sink>(
 ) -> (u8, T)
     // What was taken and written, and why the status is what it is.
     ensures ends { let words = map string_bytes words.now in let before = outside (F.view files.old) (tables_alone (T.view tables) 0) in
-        (faults : ℕ) × WordsEnd (talk_of words) words before (outside (F.view files.new) (tables_alone (T.view result.1) faults))
+        (faults : ℕ) × CommandEnds (command_of words) before (outside (F.view files.new) (tables_alone (T.view result.1) faults))
         (I.view streams.old.input) (I.view streams.new.input) (K.view streams.old.out) (K.view streams.new.out) result.0 }
 
     // Which files it may have read: none after one that is refused.
-    ensures reads { let old = F.view files.old in let words = map string_bytes words.now in
-        ReadsAmong (WordsMayRead old (talk_of words) (command_of words)) old (F.view files.new) }
+    ensures reads { let old = F.view files.old in
+        ReadsAmong (MayRead old (command_of (map string_bytes words.now))) old (F.view files.new) }
 
     // The contents of all files and the rows of all tables stay, and no count falls.
     ensures keeps { KeepsFiles (F.view files.old) (F.view files.new) }
     ensures keeps_tables { KeepsTables (T.view tables) (T.view result.1) }
-    ensures untouched { let words = map string_bytes words.now in
-        talk_of words ≡ None → asks_stores (command_of words) ≡ false → result.1 ≡ tables }
+    ensures untouched { asks_stores (command_of (map string_bytes words.now)) ≡ false → result.1 ≡ tables }
     ensures input { (I.view streams.old.input).faults ≤ (I.view streams.new.input).faults }
     ensures count { (K.view streams.old.out).faults ≤ (K.view streams.new.out).faults }
 {
