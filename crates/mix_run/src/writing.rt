@@ -1,7 +1,8 @@
 // Lines that are written, each by one write, and those of refusals.
-ghost use Rattle.std.specs.Prelude.{◌<◌, ◌≤◌, length, OnOk, IfErr};
+ghost use Rattle.std.specs.Prelude.{◌≡◌, ◌<◌, ◌≤◌, length, OnOk, IfErr, string_bytes};
 ghost use Rattle.mix_io.specs.Views.{SinkView};
 ghost use Rattle.mix_io.specs.Contents.{Appends};
+ghost use Rattle.mix_run.specs.Ends.{Ends};
 ghost use Rattle.mix_run.specs.Stops.{IsCut};
 
 use mix_io::{Sink, SinkFault};
