@@ -61,7 +61,7 @@ module _ (old new : FilesView) (stores stores' : StoresView) (view catalog : Lis
 -- where a talk was refused, and the line of its refusal was written or cut short, the talk ends
 pub refused : (old new : FilesView) (stores : StoresView) (view catalog : List ℕ) (input : InputView) (before after : SinkView) (r : Refusal) (status : ℕ) → IsReadyStop old new view catalog (stop.Refused r)
     → Ends (λ s lines. (s ≡ r.status) × (lines ≡ string_bytes r.line)) before after status → TalkEnds (outside old stores) (outside new stores) view catalog input input before after status
-refused old new stores view catalog input before after r status cause ends = inl (refl, refl, course_ends (IsTalkRefused old new view catalog) before after r status cause ends)
+refused old new stores view catalog input before after r status cause ends = inl (refl, refl, course_ends (IsTalkRefused old new view catalog) before after r.status (string_bytes r.line) cause status ends)
 
 -- where a talk was stopped before it began, since memory ran out, the talk ends
 pub unbegun : (old new : FilesView) (stores : StoresView) (view catalog : List ℕ) (input : InputView) (before : SinkView) → TalkEnds (outside old stores) (outside new stores) view catalog input input before before 6

@@ -1,4 +1,4 @@
-use Rattle.std.proofs.Common.{◌≡◌, inl, inr, Err, IfErr, refl, subst}
+use Rattle.std.proofs.Common.{◌≡◌, inl, inr, Err, IfErr, refl, string_bytes, subst}
 use Rattle.mix_place.specs.declared.refusal.Stop.TheVariants.{Refused}
 use Rattle.mix_run.proofs.CourseEnds.{course_ends}
 use Rattle.mix_top.specs.Served.{IsServingRefused, IsServingStop, placed}
@@ -21,6 +21,6 @@ returns-in-Err-Refused-clause-ends g c =
     inl (
       refl,
       refl,
-      course_ends (IsServingRefused old new c.args.catalog.now) (sink c.args.streams.now.out) (sink c.refuse.new.out) c.in-Err-Refused.refusal c.refuse.result
-          (subst (λ r. IfErr r (IsServingStop old new c.args.catalog.now)) is c.make_ready.ensures.err) c.refuse.ensures.ends,
+      course_ends (IsServingRefused old new c.args.catalog.now) (sink c.args.streams.now.out) (sink c.refuse.new.out) c.in-Err-Refused.refusal.status (string_bytes c.in-Err-Refused.refusal.line)
+          (subst (λ r. IfErr r (IsServingStop old new c.args.catalog.now)) is c.make_ready.ensures.err) c.refuse.result c.refuse.ensures.ends,
     )
