@@ -35,7 +35,7 @@ use Rattle.plan_core.specs.declared.plan.Plan.{Plan}
 use Rattle.mix_place.specs.declared.refusal.Stop.{Stop}
 use Rattle.mix_place.specs.declared.refusal.Stop.TheVariants.{OutOfMemory}
 use Rattle.mix_run.proofs.Lines.{nothing_of}
-use Rattle.mix_run.specs.Stops.{EndsAsHeard, IsDoneAs, IsDoneWith, IsEndOf, outcome_of, outcome_status}
+use Rattle.mix_run.specs.Stops.{EndsAsHeard, IsDoneAs, IsEndOf, outcome_of, outcome_status}
 
 -- the end of lines under equal names and steps is the same end
 pub renamed : {W : Type 0} (c : Course W) (old new : View) (names names' : List (List ℕ)) (steps steps' : List Step) (before after : SinkView) (r : Result Bool LinesFault) → names' ≡ names → steps' ≡ steps

@@ -11,7 +11,7 @@ use Rattle.mix_script.specs.Answers.{line_of}
 use Rattle.mix_script.specs.Finished.{AreOf, IsTold}
 use Rattle.mix_script.specs.Names.{no_names, with_name}
 use Rattle.mix_script.specs.Trails.{with_named, names_with}
-use Rattle.mix_script.specs.Transcript.{AreNotes, Finished, IsRight, IsRightFor, IsSense, IsTextOf, MayBeNoted, Names, Naming, Note, answer_of, answered, failed, goal_of, if_held, label_answer, may_fail, move_answer, nothing, spelled, transcript, unless_failed}
+use Rattle.mix_script.specs.Transcript.{AreNotes, Finished, IsRight, IsRightFor, IsSense, IsTextOf, MayBeNoted, Names, Naming, Note, answer_of, answered, failed, goal_of, if_held, label_answer, may_fail, move_answer, nothing, spelled, unless_failed}
 use Rattle.mix_script.specs.declared.answer.Answer.{Answer}
 use Rattle.mix_script.specs.declared.answer.Answer.TheVariants as answer
 use Rattle.mix_script.specs.declared.step.Act.{Act}
