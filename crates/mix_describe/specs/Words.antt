@@ -3,7 +3,7 @@ use Rattle.std.specs.Prelude.{◌≡◌, ℕ, cond, List, [], ◌∷◌, Option,
 use Rattle.std.specs.Str.{bytes_eq}
 use Rattle.mix_io.specs.Views.{FilesView, SinkView}
 use Rattle.schema_keep.specs.Views.{SchemasView}
-use Rattle.mix_top.specs.Ends.{Ends}
+use Rattle.mix_run.specs.Ends.{Ends}
 use Rattle.mix_top.specs.Texts.{unknown_text}
 use Rattle.mix_describe.specs.Describes.{Describes}
 

@@ -1,7 +1,7 @@
 // The top call of `describe`.
 ghost use Rattle.std.specs.Prelude.{◌≡◌, ◌≤◌, Some, None, IfSome, map, string_bytes};
 ghost use Rattle.mix_io.specs.Views.{FilesView, SinkView, KeepsFiles};
-ghost use Rattle.mix_top.specs.Ends.{Ends};
+ghost use Rattle.mix_run.specs.Ends.{Ends};
 ghost use Rattle.mix_place.specs.Reading.{ReadsAmong};
 ghost use Rattle.schema_keep.specs.Views.{KeepsSchemas, SchemasView};
 ghost use Rattle.mix_describe.specs.Describes.{Describes};
@@ -11,7 +11,8 @@ use crate::described::Described;
 use crate::file::described;
 use mix_io::{Files, Sink};
 use mix_place::Stop;
-use mix_top::{refuse_words, write_lines};
+use mix_run::write_lines;
+use mix_top::refuse_words;
 use schema_keep::Schemas;
 use std::alloc::Global;
 

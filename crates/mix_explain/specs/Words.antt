@@ -5,7 +5,7 @@ use Rattle.mix_io.specs.Views.{FilesView, SinkView}
 use Rattle.mix_catalog.specs.declared.source.SourceSpec.{SourceSpec}
 use Rattle.mix_place.specs.Files.{IsCatalogFile, IsRuleFile}
 use Rattle.mix_place.specs.Reading.{IsFileBefore}
-use Rattle.mix_top.specs.Ends.{Ends}
+use Rattle.mix_run.specs.Ends.{Ends}
 use Rattle.mix_top.specs.FilesRead.{FileMayRead}
 use Rattle.mix_top.specs.Texts.{unknown_text}
 use Rattle.plan_rewrite.specs.Rewritten.{plan_for}

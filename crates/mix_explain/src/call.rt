@@ -1,7 +1,7 @@
 // The top call of `explain`.
 ghost use Rattle.std.specs.Prelude.{◌≡◌, ◌≤◌, Some, None, IfSome, map, string_bytes};
 ghost use Rattle.mix_io.specs.Views.{SinkView, KeepsFiles};
-ghost use Rattle.mix_top.specs.Ends.{Ends};
+ghost use Rattle.mix_run.specs.Ends.{Ends};
 ghost use Rattle.table_keep.specs.Views.{KeepsTables};
 ghost use Rattle.source_checks.specs.Checks.{moment};
 ghost use Rattle.mix_place.specs.Reading.{ReadsAmong};
@@ -12,7 +12,8 @@ use crate::explained::Explained;
 use crate::view::{Explaining, explained};
 use mix_io::{Files, Sink};
 use mix_place::Stop;
-use mix_top::{refuse_words, write_lines};
+use mix_run::write_lines;
+use mix_top::refuse_words;
 use page_reasons::PageReasons;
 use std::alloc::Global;
 

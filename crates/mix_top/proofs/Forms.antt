@@ -1,29 +1,41 @@
--- The courses of the commands that differ in the form of what is written alone.
-use Rattle.std.proofs.Common.{◌≡◌, ◌⊎◌, inl, inr, ℕ, true, List, Result, OnOk, IfOk, IfErr, refl, sym, subst}
+-- The courses of the commands that differ in the form of what is written alone, and of those without fault lines.
+use Rattle.std.proofs.Common.{◌≡◌, ◌≤◌, inl, inr, ℕ, true, List, Result, OnOk, IfOk, IfErr, refl, subst, Ok, Err}
 use Rattle.mix_io.specs.Views.{FilesView, SinkView}
 use Rattle.mix_top.specs.Commands.{Command, asks_stores}
-use Rattle.mix_top.specs.Course.{IsCourse, Runs}
-use Rattle.mix_top.specs.FilesRead.{MayRead, RunMayRead}
-use Rattle.mix_top.specs.Outside.{Outside}
-use Rattle.mix_top.specs.Running.{given_by, run_lines}
-use Rattle.mix_top.specs.Stops.{IsDone, IsDoneAs, IsStop, IsStopFrom, unmarked_end}
-use Rattle.mix_top.specs.Words.{run_command}
-use Rattle.mix_top.specs.declared.outcome.Outcome.{Outcome}
+use Rattle.mix_top.specs.Course.{IsCourse, Plans}
+use Rattle.mix_run.specs.Runs.{Runs}
+use Rattle.mix_top.specs.FilesRead.{MayRead, PlanMayRead}
+use Rattle.mix_run.specs.FilesRead.{RunMayRead}
+use Rattle.mix_run.specs.Outside.{Outside}
+use Rattle.mix_run.specs.Running.{given_by, run_lines}
+use Rattle.mix_run.specs.Stops.{IsDone, IsDoneAs, IsStop, IsStopFrom}
+use Rattle.mix_top.specs.Stops.{IsTold, unmarked_end}
+use Rattle.mix_run.specs.Ends.{EndsFrom}
+use Rattle.mix_top.specs.Words.{plan_command, run_command}
 use Rattle.mix_place.specs.declared.refusal.Stop.{Stop}
-use Rattle.mix_top.specs.declared.running.RunForm.{RunForm}
-use Rattle.mix_top.specs.declared.running.RunForm.TheVariants.{Answers, Counts, Executed, Looped}
-use Rattle.mix_top.proofs.RunCourse.{unmarked_done, unmarked_stopped}
+use Rattle.mix_run.specs.declared.running.RunForm.{RunForm}
+use Rattle.mix_run.specs.declared.running.RunForm.TheVariants.{Answers, Counts, Executed, Looped}
+use Rattle.mix_place.specs.declared.refusal.Stop.TheVariants.{Refused, SinkFailed, OutOfMemory}
+use Rattle.mix_top.proofs.Telling.{told_ends}
 
--- what is so of two forms is so of a form that is one of them
-pub of_either : (P : RunForm → Type 0) (form one other : RunForm) → (form ≡ one) ⊎ (form ≡ other) → P one → P other → P form
-of_either P form one other (inl e) a b = subst P (sym e) a
-of_either P form one other (inr e) a b = subst P (sym e) b
+module _ (Course : ℕ → List ℕ → Type 0) (before after : SinkView) where
+  -- where a command without fault lines ended well, it was done
+  pub unmarked_done : (r : Result (Unit {0}) Stop) → OnOk r (IsDone Course before after) → IfOk (unmarked_end r) (IsDoneAs Course before after)
+  unmarked_done (Ok done) h = h
+  unmarked_done (Err stop) h = tt
 
--- what is so of the three forms of a run of a view is so of a form that is one of them
-pub of_views : (P : RunForm → Type 0) (form : RunForm) → (form ≡ Answers) ⊎ ((form ≡ Counts) ⊎ (form ≡ Looped)) → P Answers → P Counts → P Looped → P form
-of_views P form (inl e) a b c = subst P (sym e) a
-of_views P form (inr (inl e)) a b c = subst P (sym e) b
-of_views P form (inr (inr e)) a b c = subst P (sym e) c
+  module _ (Unbegun : Type 0) (unbegun : Unbegun) where
+    -- where a command was stopped that asks nothing of stores, what is so in any case was so before any line
+    stop_from : (stop : Stop) → IsStop Course before after stop → IsStopFrom Unbegun Course before after stop
+    stop_from (Refused r) h = h
+    stop_from SinkFailed h = h
+    stop_from OutOfMemory (inl h) = inl (unbegun, h.1)
+    stop_from OutOfMemory (inr h) = inr h
+
+    -- where a command without fault lines was stopped, its end is a stop of its course
+    pub unmarked_stopped : (r : Result (Unit {0}) Stop) → IfErr r (IsStop Course before after) → IfErr (unmarked_end r) (IsStopFrom Unbegun Course before after)
+    unmarked_stopped (Ok done) h = tt
+    unmarked_stopped (Err stop) h = stop_from stop h
 
 -- what is so of the course of a run is so of its command's, in each form
 pub run_course : (P : (ℕ → List ℕ → Type 0) → Type 0) (before after : Outside) (s0 s1 : SinkView) (form : RunForm) (file catalog script : List ℕ)
@@ -48,17 +60,27 @@ run_asks Counts file catalog script = refl
 run_asks Executed file catalog script = refl
 run_asks Looped file catalog script = refl
 
-module _ (before after : Outside) (s0 s1 : SinkView) (command words : Command) (is : command ≡ words) (r : Result (Unit {0}) Stop) (end : Result Outcome Stop) (e : end ≡ unmarked_end r) where
-  -- a command without fault lines, which the words are, was done
-  pub words_done : OnOk r (IsDone (IsCourse before after command s0 s1) s0 s1) → IfOk end (IsDoneAs (IsCourse before after words s0 s1) s0 s1)
-  words_done h =
-      subst (λ (c : Command). IfOk end (IsDoneAs (IsCourse before after c s0 s1) s0 s1)) is
-      (subst (λ (x : Result Outcome Stop). IfOk x (IsDoneAs (IsCourse before after command s0 s1) s0 s1)) (sym e) (unmarked_done (IsCourse before after command s0 s1) s0 s1 r h))
+-- what is so of what the writing of a plan comes to is so of its command's, in each form
+pub plan_course : (P : (ℕ → List ℕ → Type 0) → Type 0) (before after : Outside) (s0 s1 : SinkView) (form : RunForm) (file catalog : List ℕ)
+    → P (Plans (given_by form) before.files after.files file catalog) → P (IsCourse before after (plan_command form file catalog) s0 s1)
+plan_course P before after s0 s1 Answers file catalog h = h
+plan_course P before after s0 s1 Counts file catalog h = h
+plan_course P before after s0 s1 Executed file catalog h = h
+plan_course P before after s0 s1 Looped file catalog h = h
 
-  -- a command without fault lines, which the words are, was stopped; it asked nothing of stores
-  pub words_stopped : after.stores ≡ before.stores → IfErr r (IsStop (IsCourse before after command s0 s1) s0 s1) → IfErr end (IsStopFrom (after.stores ≡ before.stores) (IsCourse before after words s0 s1) s0 s1)
-  words_stopped same h =
-      let Unbegun : Type 0 = after.stores ≡ before.stores in
-      subst (λ (c : Command). IfErr end (IsStopFrom Unbegun (IsCourse before after c s0 s1) s0 s1)) is
-      (subst (λ (x : Result Outcome Stop). IfErr x (IsStopFrom Unbegun (IsCourse before after command s0 s1) s0 s1)) (sym e)
-      (unmarked_stopped (IsCourse before after command s0 s1) s0 s1 Unbegun same r h))
+-- what is so of what the writing of a plan may read is so of its command's, in each form
+pub plan_may_read : (P : (List ℕ → Type 0) → Type 0) (files : FilesView) (form : RunForm) (file catalog : List ℕ) → P (PlanMayRead (given_by form) files file catalog) → P (MayRead files (plan_command form file catalog))
+plan_may_read P files Answers file catalog h = h
+plan_may_read P files Counts file catalog h = h
+plan_may_read P files Executed file catalog h = h
+plan_may_read P files Looped file catalog h = h
+
+-- a command without fault lines, which the words are, whose end was told ends as its course says; it asked nothing of stores
+pub words_told : (before after : Outside) (s0 s1 s2 : SinkView) (command words : Command) → command ≡ words → (r : Result (Unit {0}) Stop) (status : ℕ) → after.stores ≡ before.stores
+    → OnOk r (IsDone (IsCourse before after command s0 s1) s0 s1) → IfErr r (IsStop (IsCourse before after command s0 s1) s0 s1) → s0.faults ≤ s1.faults → IsTold (unmarked_end r) s1 s2 status
+    → EndsFrom (after.stores ≡ before.stores) (IsCourse before after words s0 s2) s0 s2 status
+words_told before after s0 s1 s2 command words is r status same done stop steady told =
+    let Course = IsCourse before after command s0 s1 in
+    let Unbegun : Type 0 = after.stores ≡ before.stores in
+    subst (λ (c : Command). EndsFrom Unbegun (IsCourse before after c s0 s2) s0 s2 status) is
+    (told_ends before after command s0 s1 s2 (unmarked_end r) status steady (unmarked_done Course s0 s1 r done) (unmarked_stopped Course s0 s1 Unbegun same r stop) told)

@@ -3,15 +3,14 @@ use Rattle.std.specs.Prelude.{◌≡◌, ◌⊎◌, ℕ, List}
 use Rattle.mix_tree.specs.Forest.{LabelledTree}
 use Rattle.bracket_text.specs.Stands.{SpellsTree}
 use Rattle.mix_io.specs.Views.{FilesView}
-use Rattle.mix_script.specs.declared.step.Forms.{Forms}
-use Rattle.mix_script.specs.declared.step.Step.{Step}
 use Rattle.mix_catalog.specs.declared.source.SourceSpec.{SourceSpec}
-use Rattle.plan_core.specs.Plans.{Operator}
-use Rattle.mix_top.specs.Commands.{Command, help, version, walk, read, plan, check, run, count, exec, loop, load, unknown}
-use Rattle.mix_place.specs.Files.{IsCatalogFile, IsScript}
-use Rattle.mix_top.specs.Course.{PlanFile, by_text, by_view}
+use Rattle.mix_top.specs.Commands.{Command, help, version, walk, read, plan, check, run, count, exec, loop, talk, load, unknown}
+use Rattle.mix_place.specs.Files.{IsCatalogFile}
+use Rattle.mix_run.specs.FilesRead.{MayReadAfter, RunMayRead}
+use Rattle.mix_run.specs.Runs.{PlanFile, by_text, by_view}
+use Rattle.mix_run.specs.Talks.{TalkMayRead}
 use Rattle.mix_place.specs.Documents.{IsDocument}
-use Rattle.mix_place.specs.Placed.{SourceMayRead, ViewsMayRead}
+use Rattle.mix_place.specs.Placed.{ViewsMayRead}
 
 -- the files that a walk may read: its document, and after an accepted one its script
 abbrev pub WalkMayRead : FilesView → List ℕ → List ℕ → List ℕ → Type 0
@@ -21,23 +20,9 @@ WalkMayRead files file script path = (path ≡ file) ⊎ ((path ≡ script) × (
 abbrev pub FileMayRead : FilesView → List ℕ → List ℕ → List ℕ → Type 0
 FileMayRead files file catalog path = (path ≡ catalog) ⊎ ((path ≡ file) × (sources : List SourceSpec) × IsCatalogFile files catalog sources)
 
--- the files that a command may read: the catalog, after it the file that is to give a plan, and after that those that a given relation says
-abbrev pub MayReadAfter : PlanFile → (List SourceSpec → List Operator → List ℕ → Type 0) → FilesView → List ℕ → List ℕ → List ℕ → Type 0
-MayReadAfter given Then files view catalog path =
-    (path ≡ catalog) ⊎ ((sources : List SourceSpec) × IsCatalogFile files catalog sources
-    × ((path ≡ view) ⊎ ((ops : List Operator) × given.Gives files view sources ops × Then sources ops path)))
-
 -- the files that the writing of a plan may read: the catalog, the file that gives the plan, and then the files of the views that it reads
 abbrev pub PlanMayRead : PlanFile → FilesView → List ℕ → List ℕ → List ℕ → Type 0
 PlanMayRead given files file catalog = MayReadAfter given (λ sources ops. ViewsMayRead files ops sources) files file catalog
-
--- after the files of its catalog and its plan, the files that a run may read: the script, and after it the files of the sources that the plan reads
-abbrev pub ScriptMayRead : Forms → FilesView → List ℕ → List SourceSpec → List Operator → List ℕ → Type 0
-ScriptMayRead forms files script sources ops path = (path ≡ script) ⊎ ((steps : List Step) × IsScript forms files script steps × SourceMayRead files ops sources path)
-
--- the files that a run may read: the catalog, the file that gives its plan, the script, and then the files of the sources that the plan reads
-abbrev pub RunMayRead : PlanFile → FilesView → List ℕ → List ℕ → List ℕ → List ℕ → Type 0
-RunMayRead given files file catalog script = MayReadAfter given (ScriptMayRead given.forms files script) files file catalog
 
 -- the files that a command may read
 abbrev pub MayRead : FilesView → Command → List ℕ → Type 0
@@ -51,5 +36,6 @@ MayRead files (run view catalog script) path = RunMayRead by_view files view cat
 MayRead files (count view catalog script) path = RunMayRead by_view files view catalog script path
 MayRead files (exec text catalog script) path = RunMayRead by_text files text catalog script path
 MayRead files (loop view catalog script) path = RunMayRead by_view files view catalog script path
+MayRead files (talk view catalog) path = TalkMayRead files view catalog path
 MayRead files (load people) path = ⊥
 MayRead files unknown path = ⊥

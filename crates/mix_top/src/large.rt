@@ -2,13 +2,13 @@
 ghost use Rattle.std.specs.Prelude.{◌≡◌, ◌≤◌, OnOk, IfOk, IfErr, string_bytes};
 ghost use Rattle.mix_io.specs.Views.{SinkView};
 ghost use Rattle.mix_top.specs.Load.{load_lines, visit_lines, Loads};
-ghost use Rattle.mix_top.specs.Stops.{IsDone, IsStop};
+ghost use Rattle.mix_run.specs.Stops.{IsDone, IsStop};
 
-use crate::writing::write_lines;
 use browse_class::Class;
 use mix_io::Sink;
 use mix_load::{Visit, names_class, visit_people};
 use mix_place::Stop;
+use mix_run::write_lines;
 use std::alloc::{AllocError, Global};
 use view_class::class_line;
 

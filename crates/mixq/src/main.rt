@@ -5,11 +5,11 @@
 use far_links::FarLinks;
 use file_dial::FileDial;
 use file_link::FileLink;
-use mix_call::{mixq_over, mixq_serve_over};
 use mix_describe::mixq_describe;
 use mix_explain::mixq_explain;
 use mix_io::{OsFiles, StdInput, StdSink, Streams};
 use mix_reach::Stores;
+use mix_top::{mixq_over, mixq_serve_over};
 use sqlite_tables::{SqliteSchemas, SqliteTables};
 use std::alloc::Global;
 use std::process::ExitCode;

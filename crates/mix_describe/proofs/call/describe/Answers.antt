@@ -1,4 +1,4 @@
-use Rattle.mix_top.proofs.CourseEnds.{course_ends}
+use Rattle.mix_run.proofs.CourseEnds.{course_ends}
 use Rattle.mix_describe.specs.Describes.{Describes}
 use Rattle.mix_describe.proofs.call.describe.Goals as goal
 

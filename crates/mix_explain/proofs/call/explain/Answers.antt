@@ -1,4 +1,4 @@
-use Rattle.mix_top.proofs.CourseEnds.{course_ends}
+use Rattle.mix_run.proofs.CourseEnds.{course_ends}
 use Rattle.source_checks.specs.Checks.{moment}
 use Rattle.mix_explain.specs.Explained.{Explains}
 use Rattle.mix_explain.proofs.call.explain.Goals as goal

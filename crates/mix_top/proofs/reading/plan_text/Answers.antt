@@ -10,9 +10,10 @@ use Rattle.mix_place.specs.Reading.{IsEither}
 use Rattle.mix_place.proofs.MountLaws.{is_steady, steady_twice}
 use Rattle.mix_place.proofs.PlaceLaws.{lower_all_before, views_may_before}
 use Rattle.mix_place.proofs.ReadingLaws.{reads_more}
-use Rattle.mix_top.specs.Running.{given_by}
-use Rattle.mix_top.proofs.FilesRead.{reads_catalog, reads_then, reads_view}
-use Rattle.mix_top.proofs.Readiness.{file_unready, given_ops_before, given_plan_before, views_unready}
+use Rattle.mix_run.specs.Running.{given_by}
+use Rattle.mix_run.proofs.FilesRead.{reads_catalog, reads_then, reads_view}
+use Rattle.mix_run.proofs.Readiness.{file_unready, given_ops_before, given_plan_before}
+use Rattle.mix_top.proofs.StopLaws.{views_unready}
 use Rattle.mix_top.proofs.reading.plan_text.Goals as goal
 
 pub returns-in_err-plan-clause-err : goal.returns-in_err-plan-clause-err

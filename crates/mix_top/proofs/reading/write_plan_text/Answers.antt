@@ -2,8 +2,8 @@ use Rattle.std.proofs.Common.{inr, refl, ℕ, List, OnOk, IfErr, subst}
 use Rattle.std.proofs.lemmas.Result.{err_from_is_err_and}
 use Rattle.mix_io.specs.Contents.{Appends}
 use Rattle.mix_top.specs.Course.{Plans}
-use Rattle.mix_top.specs.Running.{given_by}
-use Rattle.mix_top.specs.Stops.{IsCut}
+use Rattle.mix_run.specs.Running.{given_by}
+use Rattle.mix_run.specs.Stops.{IsCut}
 use Rattle.mix_top.proofs.StopLaws.{plan_stops, written_done, written_stopped}
 use Rattle.mix_top.proofs.reading.write_plan_text.Goals as goal
 

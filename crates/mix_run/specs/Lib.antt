@@ -1,0 +1,15 @@
+pub mod Answered
+pub mod Bounded
+pub mod Counting
+pub mod Counts
+pub mod Ends
+pub mod FilesRead
+pub mod Finishing
+pub mod Outside
+pub mod Question
+pub mod Running
+pub mod Runs
+pub mod Stops
+pub mod TalkEnds
+pub mod Talking
+pub mod Talks

@@ -1,5 +1,0 @@
-use Rattle.mix_top.proofs.WithoutTables.{without_tables}
-use Rattle.mix_top.proofs.law.runs_without_tables_are_unmarked.Goals as goal
-
-pub returns : goal.returns
-returns c = without_tables
