@@ -30,13 +30,13 @@ module _ (before mid after : SinkView) (on : TookOn mid after) where
   course_on o o' (plan view catalog) status lines h = h
   course_on o o' (check text catalog) status lines h = h
   course_on o o' (run view catalog script) status lines (inl refused) = inl refused
-  course_on o o' (run view catalog script) status lines (inr h) = inr (h.0, h.1, (h.2.0, answered_on o.stores o'.stores h.0 h.2.0 status lines h.2.1))
+  course_on o o' (run view catalog script) status lines (inr h) = inr (h.0, h.1, (h.2.0, answered_on before mid after on o.stores o'.stores h.0 h.2.0 status lines h.2.1))
   course_on o o' (count view catalog script) status lines (inl refused) = inl refused
-  course_on o o' (count view catalog script) status lines (inr h) = inr (h.0, h.1, (h.2.0, h.2.1, answered_on o.stores o'.stores h.0 h.2.0 status h.2.1 h.2.2, h.2.3))
+  course_on o o' (count view catalog script) status lines (inr h) = inr (h.0, h.1, (h.2.0, h.2.1, answered_on before mid after on o.stores o'.stores h.0 h.2.0 status h.2.1 h.2.2, h.2.3))
   course_on o o' (exec text catalog script) status lines (inl refused) = inl refused
-  course_on o o' (exec text catalog script) status lines (inr h) = inr (h.0, h.1, (h.2.0, answered_on o.stores o'.stores h.0 h.2.0 status lines h.2.1))
+  course_on o o' (exec text catalog script) status lines (inr h) = inr (h.0, h.1, (h.2.0, answered_on before mid after on o.stores o'.stores h.0 h.2.0 status lines h.2.1))
   course_on o o' (loop view catalog script) status lines (inl refused) = inl refused
-  course_on o o' (loop view catalog script) status lines (inr h) = inr (h.0, h.1, (h.2.0, answered_on o.stores o'.stores h.0 h.2.0 status lines h.2.1))
+  course_on o o' (loop view catalog script) status lines (inr h) = inr (h.0, h.1, (h.2.0, answered_on before mid after on o.stores o'.stores h.0 h.2.0 status lines h.2.1))
   course_on o o' (talk view catalog) status lines h = h
   course_on o o' (load people) status lines h = h
   course_on o o' unknown status lines h = h
