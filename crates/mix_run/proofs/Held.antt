@@ -22,7 +22,7 @@ use Rattle.mix_run.proofs.LinesEnd.{heard_weaker}
 use Rattle.mix_run.proofs.RunCourse.{view_question}
 use Rattle.mix_run.proofs.CourseEnds.{course_ends}
 use Rattle.mix_run.specs.TalkEnds.{TalkEnds, TalkedAlong, talk_status}
-use Rattle.mix_run.specs.Talking.{IsReady, IsReadyStop, TalkOver, placed}
+use Rattle.mix_run.specs.Talking.{IsTalkReady, IsTalkStop, TalkOver, placed_talk}
 use Rattle.mix_run.specs.Talks.{IsTalkRefused, Talks}
 use Rattle.mix_run.specs.declared.talking.Ready.{Ready}
 
@@ -37,20 +37,20 @@ module _ (old new : FilesView) (stores stores' : StoresView) (view catalog : Lis
   Ended status = TalkEnds (outside old stores) (outside new stores') view catalog input input' before after status
 
   -- where a talk over what was made ready was held, the talk ends
-  pub held : (ready : Ready) → IsReady old view catalog ready → (end : Result Bool LinesFault)
-      → (fills : ℕ) × TalkedAlong (names_of_sources ready.basis.catalog) (TalkOver fills stores stores' (placed ready) ready.basis) input input' before after end → (status : ℕ) → status ≡ talk_status end → Ended status
+  pub held : (ready : Ready) → IsTalkReady old view catalog ready → (end : Result Bool LinesFault)
+      → (fills : ℕ) × TalkedAlong (names_of_sources ready.basis.catalog) (TalkOver fills stores stores' (placed_talk ready) ready.basis) input input' before after end → (status : ℕ) → status ≡ talk_status end → Ended status
   held ready is end h status same =
-      let Over : Course = TalkOver h.0 stores stores' (placed ready) ready.basis in
+      let Over : Course = TalkOver h.0 stores stores' (placed_talk ready) ready.basis in
       let All : Course = Talks (outside old stores) (outside new stores') view catalog in
       let asked = heard_by h.1.bytes end in
       inr (ready.basis.catalog, is.catalog_is, end, same, record { bytes = h.1.bytes; took = h.1.took; timely = h.1.timely; input_ends = h.1.input_ends; ends = heard_weaker (Over asked before after) (All asked before after) before after (talks asked h.0) end h.1.ends })
     where
-      talks : (asked : List Heard) (fills status : ℕ) (lines : List ℕ) → TalkOver fills stores stores' (placed ready) ready.basis asked before after status lines
+      talks : (asked : List Heard) (fills status : ℕ) (lines : List ℕ) → TalkOver fills stores stores' (placed_talk ready) ready.basis asked before after status lines
           → Talks (outside old stores) (outside new stores') view catalog asked before after status lines
       talks asked fills status lines h = (
-        question_of stores (placed ready) ready.basis.catalog (plan_value ready.basis.plan).ops (steps_in asked) h.0,
+        question_of stores (placed_talk ready) ready.basis.catalog (plan_value ready.basis.plan).ops (steps_in asked) h.0,
         record {
-          view_is = view_question visits has old stores ready.basis.catalog (plan_value ready.basis.plan) (steps_in asked) (placed ready) is.placed_are h.0 view catalog is.catalog_is h.1 is.plan_is;
+          view_is = view_question visits has old stores ready.basis.catalog (plan_value ready.basis.plan) (steps_in asked) (placed_talk ready) is.placed_are h.0 view catalog is.catalog_is h.1 is.plan_is;
           steps_are = refl;
           texts = h.2.0;
         },
@@ -59,7 +59,7 @@ module _ (old new : FilesView) (stores stores' : StoresView) (view catalog : Lis
       )
 
 -- where a talk was refused, and the line of its refusal was written or cut short, the talk ends
-pub refused : (old new : FilesView) (stores : StoresView) (view catalog : List ℕ) (input : InputView) (before after : SinkView) (r : Refusal) (status : ℕ) → IsReadyStop old new view catalog (stop.Refused r)
+pub refused : (old new : FilesView) (stores : StoresView) (view catalog : List ℕ) (input : InputView) (before after : SinkView) (r : Refusal) (status : ℕ) → IsTalkStop old new view catalog (stop.Refused r)
     → Ends (λ s lines. (s ≡ r.status) × (lines ≡ string_bytes r.line)) before after status → TalkEnds (outside old stores) (outside new stores) view catalog input input before after status
 refused old new stores view catalog input before after r status cause ends = inl (refl, refl, course_ends (IsTalkRefused old new view catalog) before after r.status (string_bytes r.line) cause status ends)
 

@@ -15,13 +15,13 @@ use Rattle.mix_run.proofs.FilesRead.{reads_catalog, reads_then, reads_view}
 use Rattle.mix_place.proofs.PlaceLaws.{place_may_before, place_refused_after}
 use Rattle.mix_place.proofs.MountLaws.{IsSteady}
 use Rattle.mix_run.proofs.Readiness.{gives_before}
-use Rattle.mix_run.specs.Talking.{IsReadyStop}
+use Rattle.mix_run.specs.Talking.{IsTalkStop}
 use Rattle.mix_run.specs.Talks.{TalkMayRead}
 
 -- where the file of a source is refused after a view that is accepted, a talk is not ready
 pub sources_unready : (old mid new : FilesView) (view catalog : List ℕ) (sources : List SourceSpec) (ops : List Operator) (stop : Stop) → IsSteady old mid
     → IsCatalogFile old catalog sources → by_view.Gives old view sources ops → ReadsAmong (IsEither catalog view) old mid → IsPlaceStop mid new ops sources stop
-    → IsReadyStop old new view catalog stop
+    → IsTalkStop old new view catalog stop
 sources_unready old mid new view catalog sources ops (Refused r) steady cat gives reads h =
     inr (sources, cat, inr (ops, gives, place_refused_after (IsEither catalog view) old mid new ops sources r.status (string_bytes r.line) steady reads h))
 sources_unready old mid new view catalog sources ops SinkFailed steady cat gives reads h = absurd h

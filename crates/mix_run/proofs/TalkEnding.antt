@@ -26,7 +26,7 @@ use Rattle.mix_run.proofs.ReadTables.{plan_within}
 use Rattle.mix_run.proofs.Stacked.{over}
 use Rattle.mix_run.proofs.StoodFor.{stands_itself}
 use Rattle.mix_run.specs.TalkEnds.{TalkedAlong}
-use Rattle.mix_run.specs.Talking.{IsEnd, IsReachedEnd, TalkOver}
+use Rattle.mix_run.specs.Talking.{IsTalkEnd, IsReachedTalkEnd, TalkOver}
 use Rattle.mix_run.specs.declared.talking.Basis.{Basis}
 use Rattle.mix_run.proofs.TalkLines.{talk_lines_end, talk_untaken}
 
@@ -38,13 +38,13 @@ module _ (files : FilesView) (a b : Reaching) (came : CameFrom a b) (basis : Bas
 
   module _ (input' : InputView) (sink' : SinkView) (end : Result Bool LinesFault) (k k' : Stacking) (base : k.base ≡ reached a) (base' : k'.base ≡ reached b) (Same : Type 0) (same_fills : Same → b.fills ≡ a.fills)
       (plans : plans_of k'.views ≡ plans_of k.views) (none_asked : k.fills ≡ 0) (lazy : (most : ℕ) → Bounds k.base (plans_of k.views) most → AreOpen k.base (plans_of k.views) → AsksEach k k' most) (keeps : Keeps k.base k'.base)
-      (place : ArePlaced files (plan_value basis.plan).ops basis.catalog (placed_of a (plans_of k.views))) (h : IsEnd Same (view_of k) (view_of k') basis input input' sink sink' end) where
+      (place : ArePlaced files (plan_value basis.plan).ops basis.catalog (placed_of a (plans_of k.views))) (h : IsTalkEnd Same (view_of k) (view_of k') basis input input' sink sink' end) where
     -- sources stand in for themselves below the stack
     stand : StandIn k.base k'.base a b
     stand = subst (λ (v : View). StandIn v k'.base a b) (sym base) (subst (λ (v : View). StandIn (reached a) v a b) (sym base') (stands_itself a b came))
 
     -- a talk over a stack ends as over what is below it, and the views
-    pub talk_stack_ends : IsReachedEnd a b (plans_of k.views) basis input input' sink sink' end
+    pub talk_stack_ends : IsReachedTalkEnd a b (plans_of k.views) basis input input' sink sink' end
     talk_stack_ends few most =
         let found = has (all_documents (stores_of a) (placed_of a (plans_of k.views))) in
         let f : Finished = found.finished in

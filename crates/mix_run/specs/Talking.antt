@@ -32,21 +32,21 @@ use Rattle.mix_run.specs.declared.talking.Basis.{Basis}
 use Rattle.mix_run.specs.declared.talking.Ready.{Ready}
 
 -- what was made ready for a talk, as its sources
-abbrev pub placed : Ready → Placed
-placed r = placed_by r.placement
+abbrev pub placed_talk : Ready → Placed
+placed_talk r = placed_by r.placement
 
 -- all files of a talk were accepted: what was read of them is the catalog, the plan of the view and the mounted sources
-pub record IsReady (files : FilesView) (view catalog : List ℕ) (r : Ready) : Type 0 where
+pub record IsTalkReady (files : FilesView) (view catalog : List ℕ) (r : Ready) : Type 0 where
   pub catalog_is : IsCatalogFile files catalog r.basis.catalog
   pub plan_is : IsViewPlan files view r.basis.catalog (plan_value r.basis.plan)
   pub over : IsPlanOver r.basis.catalog (plan_value r.basis.plan)
-  pub placed_are : ArePlaced files (plan_value r.basis.plan).ops r.basis.catalog (placed r)
+  pub placed_are : ArePlaced files (plan_value r.basis.plan).ops r.basis.catalog (placed_talk r)
   pub few : length r.basis.catalog ≤ 32
   pub uses : UsesHeld (plan_value r.basis.plan).ops
 
 -- a file of a talk is refused, or memory ran out
-abbrev pub IsReadyStop : FilesView → FilesView → List ℕ → List ℕ → Stop → Type 0
-IsReadyStop old new view catalog = IsStopAfter by_view (λ sources ops. IsSourceRefused (IsEither catalog view) old new ops sources) old new view catalog
+abbrev pub IsTalkStop : FilesView → FilesView → List ℕ → List ℕ → Stop → Type 0
+IsTalkStop old new view catalog = IsStopAfter by_view (λ sources ops. IsSourceRefused (IsEither catalog view) old new ops sources) old new view catalog
 
 -- given lines answer what was heard on the plan's document over sources, by a number of fills
 abbrev pub TalkOver : ℕ → StoresView → StoresView → Placed → Basis → List Heard → SinkView → SinkView → ℕ → List ℕ → Type 0
@@ -56,8 +56,8 @@ TalkOver fills before after place basis asked sink sink' status lines =
     AreNamed q × IsHeardAnswered asked before after q fills sink sink' status lines)
 
 -- how a talk ends over sources that are reached and views over them, by all their fills, where no more pages were asked than fills, the count of which is one of 64 bits
-abbrev pub IsReachedEnd : Reaching → Reaching → List (Option Plan) → Basis → InputView → InputView → SinkView → SinkView → Result Bool LinesFault → Type 0
-IsReachedEnd old new views basis input input' sink sink' end =
+abbrev pub IsReachedTalkEnd : Reaching → Reaching → List (Option Plan) → Basis → InputView → InputView → SinkView → SinkView → Result Bool LinesFault → Type 0
+IsReachedTalkEnd old new views basis input input' sink sink' end =
     new.mounted.tables.pages ≤ old.mounted.tables.pages + new.fills → new.fills ≤ 2 ^ 64 - 1
     → TalkedAlong (names_of_sources basis.catalog) (TalkOver new.fills (stores_of old) (stores_of new) (placed_of old views) basis) input input' sink sink' end
 
@@ -68,6 +68,6 @@ pub record IsHeard (old new : View) (basis : Basis) (input input' : InputView) (
   pub ends : HeardEnds (plan_course (state_of old mediator)) old new (names_of_sources basis.catalog) input input' sink sink' end
 
 -- how a talk ends over the sources of its catalog: a mediator was talked to; or memory ran out before anything was taken, and what is given is so
-abbrev pub IsEnd : Type 0 → View → View → Basis → InputView → InputView → SinkView → SinkView → Result Bool LinesFault → Type 0
-IsEnd Unbegun old new basis input input' sink sink' end =
+abbrev pub IsTalkEnd : Type 0 → View → View → Basis → InputView → InputView → SinkView → SinkView → Result Bool LinesFault → Type 0
+IsTalkEnd Unbegun old new basis input input' sink sink' end =
     IsHeard old new basis input input' sink sink' end ⊎ ((end ≡ Err OutOfMemory) × (input' ≡ input) × (sink' ≡ sink) × Unbegun)

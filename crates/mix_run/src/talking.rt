@@ -13,7 +13,7 @@ ghost use Rattle.mix_place.specs.Placed.{ArePlaced};
 ghost use Rattle.mix_place.specs.Plans.{IsPlanOver};
 ghost use Rattle.mix_run.specs.Running.{placed_of};
 ghost use Rattle.mix_run.specs.TalkEnds.{TalkEnds, TalkedAlong, talk_status};
-ghost use Rattle.mix_run.specs.Talking.{IsEnd, IsReachedEnd, IsReady, IsReadyStop, TalkOver, placed};
+ghost use Rattle.mix_run.specs.Talking.{IsTalkEnd, IsReachedTalkEnd, IsTalkReady, IsTalkStop, TalkOver, placed_talk};
 ghost use Rattle.mix_run.specs.Talks.{TalkMayRead};
 
 use crate::law::plans_are_finished;
@@ -60,8 +60,8 @@ fn make_ready<F: Files>(alloc: Global, talking: &Talking<'_>, files: &mut F) -> 
     ensures keeps { KeepsFiles (F.view files.old) (F.view files.new) }
     ensures reads { let old = F.view files.old in
         ReadsAmong (TalkMayRead old talking.now.view.now talking.now.catalog.now) old (F.view files.new) }
-    ensures ok { let t = talking.now in IfOk result (IsReady (F.view files.old) t.view.now t.catalog.now) }
-    ensures err { let t = talking.now in IfErr result (IsReadyStop (F.view files.old) (F.view files.new) t.view.now t.catalog.now) }
+    ensures ok { let t = talking.now in IfOk result (IsTalkReady (F.view files.old) t.view.now t.catalog.now) }
+    ensures err { let t = talking.now in IfErr result (IsTalkStop (F.view files.old) (F.view files.new) t.view.now t.catalog.now) }
 {
     let catalog = load_catalog(alloc, files, talking.catalog)?;
     let plan = load_view(alloc, files, talking.view, &catalog)?;
@@ -83,7 +83,7 @@ fn talk_over<S: Sources, I: Input, K: Sink>(
     requires uses { UsesHeld (plan_value basis.plan).ops }
     requires number { (S.view sources.old).count ≡ length basis.catalog }
     ensures came { S.came_from sources.old sources.new }
-    ensures end { IsEnd (sources.new ≡ sources.old) (S.view sources.old) (S.view sources.new) basis
+    ensures end { IsTalkEnd (sources.new ≡ sources.old) (S.view sources.old) (S.view sources.new) basis
         (I.view streams.old.input) (I.view streams.new.input) (K.view streams.old.out) (K.view streams.new.out) result }
     ensures input { (I.view streams.old.input).faults ≤ (I.view streams.new.input).faults }
     ensures count { (K.view streams.old.out).faults ≤ (K.view streams.new.out).faults }
@@ -109,7 +109,7 @@ fn talk_stacked<T: Tables, R: Fars, I: Input, K: Sink>(
     requires few { length basis.catalog ≤ 32 }
     requires unasked { sources.fills ≡ 0 }
     ensures came { CameFrom (reaching_in T.view R.view sources) (reaching_in T.view R.view result.1) }
-    ensures end { IsReachedEnd (reaching_in T.view R.view sources) (reaching_in T.view R.view result.1) views.items basis
+    ensures end { IsReachedTalkEnd (reaching_in T.view R.view sources) (reaching_in T.view R.view result.1) views.items basis
         (I.view streams.old.input) (I.view streams.new.input) (K.view streams.old.out) (K.view streams.new.out) result.0 }
     ensures input { (I.view streams.old.input).faults ≤ (I.view streams.new.input).faults }
     ensures count { (K.view streams.old.out).faults ≤ (K.view streams.new.out).faults }
@@ -134,11 +134,11 @@ fn talk_ready<T: Tables, R: Fars, I: Input, K: Sink>(
     requires over { IsPlanOver ready.basis.catalog (plan_value ready.basis.plan) }
     requires uses { UsesHeld (plan_value ready.basis.plan).ops }
     requires placed { let basis = ready.basis in
-        (files : FilesView) × ArePlaced files (plan_value basis.plan).ops basis.catalog (placed ready) }
+        (files : FilesView) × ArePlaced files (plan_value basis.plan).ops basis.catalog (placed_talk ready) }
     requires few { length ready.basis.catalog ≤ 32 }
     ensures keeps { KeepsStores (stores_in T.view R.view stores) (stores_in T.view R.view result.1) }
     ensures end { let old = stores_in T.view R.view stores in let new = stores_in T.view R.view result.1 in
-        (fills : ℕ) × TalkedAlong (names_of_sources ready.basis.catalog) (TalkOver fills old new (placed ready) ready.basis)
+        (fills : ℕ) × TalkedAlong (names_of_sources ready.basis.catalog) (TalkOver fills old new (placed_talk ready) ready.basis)
         (I.view streams.old.input) (I.view streams.new.input) (K.view streams.old.out) (K.view streams.new.out) result.0 }
     ensures input { (I.view streams.old.input).faults ≤ (I.view streams.new.input).faults }
     ensures count { (K.view streams.old.out).faults ≤ (K.view streams.new.out).faults }

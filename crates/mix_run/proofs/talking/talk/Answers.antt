@@ -3,7 +3,7 @@ use Rattle.mix_place.specs.declared.refusal.Stop.{Stop}
 use Rattle.mix_place.specs.declared.refusal.Stop.TheVariants.{Refused}
 use Rattle.mix_reach.specs.Stores.{stores_in}
 use Rattle.mix_run.specs.declared.talking.Ready.{Ready}
-use Rattle.mix_run.specs.Talking.{IsReadyStop}
+use Rattle.mix_run.specs.Talking.{IsTalkStop}
 use Rattle.mix_run.proofs.Held.{held, refused}
 use Rattle.mix_run.proofs.talking.talk.Goals as goal
 
@@ -29,4 +29,4 @@ returns-in-Err-Refused-clause-ends g c =
     let is : c.make_ready.result ≡ Err (Refused c.in-Err-Refused.refusal) = cc in
     refused old new (stores_in g.T.Tables.view g.R.Fars.view c.args.stores) c.args.talking.now.view.now c.args.talking.now.catalog.now (g.I.Input.view c.args.streams.now.input) (sink c.args.streams.now.out) (sink c.refuse.new.out)
     c.in-Err-Refused.refusal c.refuse.result
-    (subst (λ (r : Result Ready Stop). IfErr r (IsReadyStop old new c.args.talking.now.view.now c.args.talking.now.catalog.now)) is c.make_ready.ensures.err) c.refuse.ensures.ends
+    (subst (λ (r : Result Ready Stop). IfErr r (IsTalkStop old new c.args.talking.now.view.now c.args.talking.now.catalog.now)) is c.make_ready.ensures.err) c.refuse.ensures.ends

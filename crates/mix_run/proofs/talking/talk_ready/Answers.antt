@@ -6,7 +6,7 @@ use Rattle.plan_core.specs.PlanMade.{plan_value}
 use Rattle.mix_place.specs.Placed.{ArePlaced, Placed}
 use Rattle.mix_run.specs.Running.{placed_of}
 use Rattle.mix_run.specs.TalkEnds.{TalkedAlong}
-use Rattle.mix_run.specs.Talking.{TalkOver, placed}
+use Rattle.mix_run.specs.Talking.{TalkOver, placed_talk}
 use Rattle.mix_run.proofs.Opening.{parts_over, placed_new, stores_new}
 use Rattle.mix_run.proofs.talking.talk_ready.Goals as goal
 
@@ -21,7 +21,7 @@ returns-clause-end g c =
     let pages = c.talk_stacked-end.ensures.came.pages in
     let parts = parts_over g.T.Tables.view g.R.Fars.view c.talk_stacked-end.result.1 c.into_parts-mounted.result c.into_tables-tables.result c.into_parts-mounted.ensures c.into_tables-tables.ensures in
     let same = ap (λ (v : StoresView). v.tables.pages) parts in
-    let views = (placed c.args.ready).views in
+    let views = (placed_talk c.args.ready).views in
     let most : new.fills ≤ 2 ^ 64 - 1 = omega (arith, c.fills-fills.type_inv, c.fills-fills.ensures) in
     let few : new.mounted.tables.pages ≤ old.mounted.tables.pages + new.fills = omega (arith, none, pages, same) in
     let Along : Placed → StoresView → StoresView → Type 0 = λ place before after.
@@ -29,7 +29,7 @@ returns-clause-end g c =
     (sink c.args.streams.now.out) (sink c.talk_stacked-end.new.streams.out) c.talk_stacked-end.result.0 in
     let after : StoresView = stores (record { tables = c.into_tables-tables.result; fars = c.into_parts-mounted.result.1 }) in
     let opened = stores_new g.T.Tables.view g.R.Fars.view c.args.stores c.new.result c.new-sources.result c.new.ensures.tables c.new-sources.ensures.mounted c.new-sources.ensures.fars in
-    let place = placed_new g.T.Tables.view g.R.Fars.view (placed c.args.ready) c.new.result c.new-sources.result c.new.ensures.docs c.new-sources.ensures.mounted c.new-sources.ensures.sites in (
+    let place = placed_new g.T.Tables.view g.R.Fars.view (placed_talk c.args.ready) c.new.result c.new-sources.result c.new.ensures.docs c.new-sources.ensures.mounted c.new-sources.ensures.sites in (
       new.fills,
       subst (λ (p : Placed). Along p (stores c.args.stores) after) place
           (subst (λ (before : StoresView). Along (placed_of old views) before after) opened
@@ -39,5 +39,5 @@ returns-clause-end g c =
 pub talk_stacked-end-requires-clause-placed : goal.talk_stacked-end-requires-clause-placed
 talk_stacked-end-requires-clause-placed g c =
     let basis = c.args.ready.basis in
-    let place = placed_new g.T.Tables.view g.R.Fars.view (placed c.args.ready) c.new.result c.new-sources.result c.new.ensures.docs c.new-sources.ensures.mounted c.new-sources.ensures.sites in
+    let place = placed_new g.T.Tables.view g.R.Fars.view (placed_talk c.args.ready) c.new.result c.new-sources.result c.new.ensures.docs c.new-sources.ensures.mounted c.new-sources.ensures.sites in
     (c.requires.placed.0, subst (λ (p : Placed). ArePlaced c.requires.placed.0 (plan_value basis.plan).ops basis.catalog p) (sym place) c.requires.placed.1)

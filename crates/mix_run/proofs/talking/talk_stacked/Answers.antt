@@ -9,7 +9,7 @@ use Rattle.view_stack.specs.Stacks.{plans_of, stacking_in}
 use Rattle.mix_place.specs.Placed.{ArePlaced}
 use Rattle.mix_run.specs.Running.{all_documents, placed_of}
 use Rattle.mix_run.proofs.Opened.{stackable}
-use Rattle.mix_run.specs.Talking.{IsReachedEnd}
+use Rattle.mix_run.specs.Talking.{IsReachedTalkEnd}
 use Rattle.mix_run.proofs.TalkEnding.{talk_stack_ends}
 use Rattle.mix_run.proofs.TalkLines.{talk_untaken}
 use Rattle.mix_run.proofs.talking.talk_stacked.Goals as goal
@@ -60,7 +60,7 @@ returns-in-Ok-clause-end g c =
     let sink = g.K.Sink.view in
     let place : ArePlaced c.requires.placed.0 ops basis.catalog (placed_of a (plans_of k.views)) =
     subst (λ (vs : List (Option Plan)). ArePlaced c.requires.placed.0 ops basis.catalog (placed_of a vs)) (sym c.in-Ok.ensures.plans) c.requires.placed.1 in
-    subst (λ (vs : List (Option Plan)). IsReachedEnd a b vs basis (input c.args.streams.now.input) (input c.talk_over-end.new.streams.input) (sink c.args.streams.now.out) (sink c.talk_over-end.new.streams.out) c.talk_over-end.result)
+    subst (λ (vs : List (Option Plan)). IsReachedTalkEnd a b vs basis (input c.args.streams.now.input) (input c.talk_over-end.new.streams.input) (sink c.args.streams.now.out) (sink c.talk_over-end.new.streams.out) c.talk_over-end.result)
     c.in-Ok.ensures.plans
     (talk_stack_ends c.requires.placed.0 a b came_ab basis c.requires.over (λ d. (c.plans_are_finished.ensures (plan_value basis.plan) c.requires.over.valid d).1 c.requires.uses) c.requires.unasked (input c.args.streams.now.input) (sink c.args.streams.now.out)
     (input c.talk_over-end.new.streams.input) (sink c.talk_over-end.new.streams.out) c.talk_over-end.result k k' (ap (λ r. view_of (at r)) c.in-Ok.ensures.base) (ap (λ r. view_of (at r)) (sym c.into_base.ensures)) _
